@@ -1,0 +1,21 @@
+-- The four kinds of answer. Verdicts 0, 1 and 3 have reason 0; verdict 0 has rule and severity 0; a reason comes with verdict 2.
+use Prim.Native.Nat.{ℕ}
+use Rattle.answer.specs.declared.record.Answer.{Answer}
+use Rattle.answer.specs.declared.verdict.Verdict.the-variants.{NoRule, Accepted, Refused, Unread}
+use Rattle.answer.specs.declared.severity.Severity.{Severity}
+use Rattle.answer.specs.declared.severity.Severity.the-variants.{NoSeverity}
+use Rattle.answer.specs.declared.reason.Reason.{Reason}
+use Rattle.answer.specs.declared.reason.Reason.the-variants.{NoReason}
+
+abbrev pub noRule : Answer
+noRule = record { verdict = NoRule; rule = 0; severity = NoSeverity; reason = NoReason }
+
+abbrev pub accepted : ℕ → Severity → Answer
+accepted n s = record { verdict = Accepted; rule = n; severity = s; reason = NoReason }
+
+-- let through by a rule that did not read it
+abbrev pub unread : ℕ → Severity → Answer
+unread n s = record { verdict = Unread; rule = n; severity = s; reason = NoReason }
+
+abbrev pub refused : ℕ → Severity → Reason → Answer
+refused n s r = record { verdict = Refused; rule = n; severity = s; reason = r }

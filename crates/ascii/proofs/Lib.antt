@@ -1,0 +1,3 @@
+-- Laws that every crate above may cite.
+pub mod Tests
+pub mod Class

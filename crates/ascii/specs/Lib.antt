@@ -1,0 +1,4 @@
+-- Bytes: their classes, and texts as they are written.
+pub mod Pick
+pub mod Class
+pub mod Written

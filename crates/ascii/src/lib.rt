@@ -1,0 +1,41 @@
+// The classes of a byte or a code point: ASCII digits and letters.
+ghost use mathlib.Core.Path.{_≡_};
+ghost use Rattle.ascii.specs.Class.{isDigit, isLetter, isPlain};
+
+// A byte as a code point.
+pub fn wide(b: u8) -> u32
+    ensures { λ r. ⌜ r ≡ b ⌝ }
+{
+    b as u32
+}
+
+pub fn is_digit(c: u32) -> bool
+    ensures { λ r. ⌜ r ≡ isDigit c ⌝ }
+{
+    if c < 48 {
+        return false;
+    }
+    c <= 57
+}
+
+pub fn is_letter(c: u32) -> bool
+    ensures { λ r. ⌜ r ≡ isLetter c ⌝ }
+{
+    if c < 65 {
+        return false;
+    }
+    if c <= 90 {
+        return true;
+    }
+    if c < 97 {
+        return false;
+    }
+    c <= 122
+}
+
+// A letter or a digit.
+pub fn is_plain(c: u32) -> bool
+    ensures { λ r. ⌜ r ≡ isPlain c ⌝ }
+{
+    is_digit(c) | is_letter(c)
+}

@@ -1,0 +1,38 @@
+-- What normalising and stripping hand back.
+use Prim.Native.Nat.{ℕ, _-_}
+use mathlib.Core.List.{List, [], _++_, map}
+use mathlib.Core.Bool.{cond}
+use lib.Dec.{leb}
+use lib.ListN.{length, take, replicate}
+use Rattle.text.specs.declared.area.Text.{Text}
+use Rattle.answer.specs.declared.reason.Reason.{Reason}
+use Rattle.answer.specs.declared.reason.Reason.the-variants.{NoReason, Long, Utf8}
+use Rattle.text.specs.Content.{Content, refused, content, contentOf, Cell, Piece}
+use Rattle.text.specs.Words.{normal, stripped}
+
+-- a list in an area of 1,024 numbers, with zeros after it
+unfoldable pub padded : List ℕ → List ℕ
+padded l = l ++ replicate (1024 - length l) 0
+
+unfoldable pub kept : List Cell → Text
+kept cs = record { reason = NoReason; len = length cs; bytes = padded (map (λ (c : Cell). c .byte) cs) }
+
+unfoldable pub refusal : Reason → Text
+refusal r = record { reason = r; len = 0; bytes = padded [] }
+
+abbrev pub onContent : Content → (List Piece → List Cell) → Text
+onContent refused f = refusal Utf8
+onContent (content ps) f = kept (f ps)
+
+unfoldable pub answer : (List Piece → List Cell) → List ℕ → Text
+answer f s = cond (leb (length s) 1024) (onContent (contentOf s) f) (refusal Long)
+
+unfoldable pub normalText : List ℕ → Text
+normalText s = answer normal s
+
+unfoldable pub strippedText : List ℕ → Text
+strippedText s = answer stripped s
+
+-- the bytes of a text, without the zeros after them
+abbrev pub textOf : Text → List ℕ
+textOf t = take (t .len) (t .bytes)

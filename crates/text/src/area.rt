@@ -1,0 +1,49 @@
+// A text in its working area, and what puts bytes there.
+ghost use mathlib.Core.Path.{_≡_};
+ghost use Prim.Native.Nat.{_+_, _≤_};
+ghost use lib.ListN.{length, drop};
+ghost use lib.Seq.{paste};
+ghost use Rattle.text.specs.Answer.{refusal};
+use answer::Reason;
+
+// A text in its working area: its length, its bytes, and zeros after them.
+pub struct Text {
+    pub reason: Reason,
+    pub len: usize,
+    pub bytes: [u8; 1024],
+}
+
+pub fn refuse(reason: Reason) -> Text
+    ensures { λ r. ⌜ r ≡ refusal reason ⌝ }
+{
+    let bytes = [0u8; 1024];
+    Text {
+        reason,
+        len: 0,
+        bytes,
+    }
+}
+
+// The k bytes from `at` go to the area, from n on.
+pub fn copy_all(s: &[u8], at: usize, k: usize, out: &mut [u8; 1024], n: usize)
+    requires { ⌜ (at + k ≤ length (now s)) × (n + k ≤ 1024) × (length (now out) ≡ 1024) ⌝ }
+    ensures { λ _. ⌜ now (out .exit) ≡ paste (now (out .entry)) n (drop at (now (s .entry))) k ⌝ }
+{
+    let mut j: usize = 0;
+    while j < k {
+        out[n + j] = s[at + j];
+        j += 1;
+    }
+}
+
+// The same for a code point, whose first byte goes at once.
+pub fn copy(s: &[u8], at: usize, k: usize, out: &mut [u8; 1024], n: usize)
+    requires { ⌜ (1 ≤ k) × (at + k ≤ length (now s)) × (n + k ≤ 1024) × (length (now out) ≡ 1024) ⌝ }
+    ensures { λ _. ⌜ now (out .exit) ≡ paste (now (out .entry)) n (drop at (now (s .entry))) k ⌝ }
+{
+    if k == 1 {
+        out[n] = s[at];
+        return;
+    }
+    copy_all(s, at, k, out, n);
+}

@@ -1,0 +1,12 @@
+// UTF-8 text in a working area: one decoding step, the white points, stripping and normalising.
+mod area;
+mod space;
+mod utf8;
+mod white;
+
+pub use area::Text;
+pub use space::normalize_space;
+pub use space::strip;
+pub use utf8::Step;
+pub use utf8::decode;
+pub use white::is_white;

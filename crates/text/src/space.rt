@@ -1,0 +1,90 @@
+// Stripping and normalising.
+ghost use mathlib.Core.Path.{_≡_};
+ghost use mathlib.Core.Bool.{_&&_};
+ghost use lib.Dec.{ltb};
+ghost use Rattle.text.specs.Answer.{strippedText, normalText};
+use super::area::Text;
+use super::area::copy;
+use super::area::refuse;
+use super::utf8::Step;
+use super::utf8::next_point;
+use super::white::is_white;
+use answer::Reason;
+
+// The content without its white points.
+pub fn strip(s: &[u8]) -> Text
+    ensures { λ r. ⌜ r ≡ strippedText (now (s .entry)) ⌝ }
+{
+    if 1024 < s.len() {
+        return refuse(Reason::Long);
+    }
+    let mut out = [0u8; 1024];
+    let mut n: usize = 0;
+    let mut at: usize = 0;
+    while at < s.len() {
+        let Step::Point(c, k) = next_point(s, at) else {
+            return refuse(Reason::Utf8);
+        };
+        let next = at + k;
+        if is_white(c) {
+            at = next;
+        } else {
+            copy(s, at, k, &mut out, n);
+            n = n + k;
+            at = next;
+        }
+    }
+    Text {
+        reason: Reason::NoReason,
+        len: n,
+        bytes: out,
+    }
+}
+
+// Whether white stands between the last point that was kept, which ends at `end`, and `at`.
+fn parted(n: usize, end: usize, at: usize) -> bool
+    ensures { λ r. ⌜ r ≡ ltb 0 n && ltb end at ⌝ }
+{
+    if n == 0 {
+        return false;
+    }
+    end < at
+}
+
+// The content without white at its ends, and with one space for each run of white within.
+pub fn normalize_space(s: &[u8]) -> Text
+    ensures { λ r. ⌜ r ≡ normalText (now (s .entry)) ⌝ }
+{
+    if 1024 < s.len() {
+        return refuse(Reason::Long);
+    }
+    let mut out = [0u8; 1024];
+    let mut n: usize = 0;
+    let mut at: usize = 0;
+    let mut end: usize = 0;
+    while at < s.len() {
+        let Step::Point(c, k) = next_point(s, at) else {
+            return refuse(Reason::Utf8);
+        };
+        let next = at + k;
+        if is_white(c) {
+            at = next;
+        } else if parted(n, end, at) {
+            out[n] = 32;
+            copy(s, at, k, &mut out, n + 1);
+            n = n + 1 + k;
+            end = next;
+            at = next;
+        } else {
+            copy(s, at, k, &mut out, n);
+            n = n + k;
+            end = next;
+            at = next;
+        }
+    }
+    Text {
+        reason: Reason::NoReason,
+        len: n,
+        bytes: out,
+    }
+}
