@@ -9,6 +9,7 @@ use answer::judged;
 use forms::Fault;
 use forms::creditor_form;
 use forms::iban_form;
+use text::first_bytes;
 use text::strip;
 
 // What is wrong with a stripped text as an IBAN.
@@ -45,8 +46,11 @@ pub fn is_valid_iban_checksum(content: &[u8]) -> Answer
     let reason = text.reason;
     if reason.number() == 0 {
         let n = text.len;
-        let bytes = text.bytes;
-        return judged(0, Severity::NoSeverity, iban_text(&bytes[0..n]));
+        return judged(
+            0,
+            Severity::NoSeverity,
+            iban_text(first_bytes(&text.bytes, n)),
+        );
     }
     judged(0, Severity::NoSeverity, reason)
 }
@@ -58,8 +62,11 @@ pub fn is_valid_creditor_identifier(content: &[u8]) -> Answer
     let reason = text.reason;
     if reason.number() == 0 {
         let n = text.len;
-        let bytes = text.bytes;
-        return judged(0, Severity::NoSeverity, creditor_text(&bytes[0..n]));
+        return judged(
+            0,
+            Severity::NoSeverity,
+            creditor_text(first_bytes(&text.bytes, n)),
+        );
     }
     judged(0, Severity::NoSeverity, reason)
 }

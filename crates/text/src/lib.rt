@@ -5,6 +5,7 @@ mod utf8;
 mod white;
 
 pub use area::Text;
+pub use area::first_bytes;
 pub use space::normalize_space;
 pub use space::strip;
 pub use utf8::Step;

@@ -1,9 +1,9 @@
 -- `accounts::account::is_valid_creditor_identifier` meets its contract. Assumes nothing.
-use mathlib.Core.Path.{_∙_}
+use mathlib.Core.Path.{_∙_, ap}
 use borrow.Author.Needs.{needs}
 use Rattle.answer.proofs.Laws.{is-none, is-given}
 use Rattle.accounts.specs.Rules.{creditorReason}
-use Rattle.accounts.proofs.Answers.{part-fits, unreadable, readable}
+use Rattle.accounts.proofs.Answers.{unreadable, readable}
 use Rattle.accounts.proofs.account.is_valid_creditor_identifier.Statement.{statement}
 use Rattle.accounts.proofs.account.is_valid_creditor_identifier.Tie as tie
 
@@ -13,14 +13,8 @@ strip-requires c κs = search needs
 number-requires : tie.Need-number-requires
 number-requires c κs = search needs
 
-sub-creditor-text : tie.Need-sub-creditor-text
-sub-creditor-text c = search needs
-
-part-creditor-text-start : tie.Need-part-creditor-text-start
-part-creditor-text-start c = search needs
-
-part-creditor-text-end : tie.Need-part-creditor-text-end
-part-creditor-text-end c = part-fits _ _ (c .before .before .before .before .strip .ensures)
+first-bytes-requires : tie.Need-first-bytes-requires
+first-bytes-requires c κs = search needs
 
 creditor-text-requires : tie.Need-creditor-text-requires
 creditor-text-requires c κs = search needs
@@ -30,10 +24,11 @@ judged-requires c κs = search needs
 
 returns : tie.Need-returns
 returns c =
-    let d = c .before .before .before .before .before in
-    let e = d .before .before in
+    let d = c .before .before in
+    let e = d .before .before .before .before in
     c .judged .ensures
-    ∙ readable creditorReason _ _ (e .strip .ensures) _ (is-none _ (d .before .number .ensures) (d .if1 .taken)) (c .before .creditor-text .ensures)
+    ∙ readable creditorReason _ _ (e .before .before .strip .ensures) _ (is-none _ (e .before .number .ensures) (e .if1 .taken))
+    (c .before .creditor-text .ensures ∙ ap creditorReason (d .first-bytes .ensures))
 
 judged-requires-2 : tie.Need-judged-requires-2
 judged-requires-2 c κs = search needs
@@ -50,9 +45,7 @@ is-valid-creditor-identifier-spec =
     (tie.spec
     strip-requires
     number-requires
-    sub-creditor-text
-    part-creditor-text-start
-    part-creditor-text-end
+    first-bytes-requires
     creditor-text-requires
     judged-requires
     returns

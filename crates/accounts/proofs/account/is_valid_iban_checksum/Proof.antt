@@ -1,9 +1,9 @@
 -- `accounts::account::is_valid_iban_checksum` meets its contract. Assumes nothing.
-use mathlib.Core.Path.{_∙_}
+use mathlib.Core.Path.{_∙_, ap}
 use borrow.Author.Needs.{needs}
 use Rattle.answer.proofs.Laws.{is-none, is-given}
 use Rattle.accounts.specs.Rules.{ibanReason}
-use Rattle.accounts.proofs.Answers.{part-fits, unreadable, readable}
+use Rattle.accounts.proofs.Answers.{unreadable, readable}
 use Rattle.accounts.proofs.account.is_valid_iban_checksum.Statement.{statement}
 use Rattle.accounts.proofs.account.is_valid_iban_checksum.Tie as tie
 
@@ -13,14 +13,8 @@ strip-requires c κs = search needs
 number-requires : tie.Need-number-requires
 number-requires c κs = search needs
 
-sub-iban-text : tie.Need-sub-iban-text
-sub-iban-text c = search needs
-
-part-iban-text-start : tie.Need-part-iban-text-start
-part-iban-text-start c = search needs
-
-part-iban-text-end : tie.Need-part-iban-text-end
-part-iban-text-end c = part-fits _ _ (c .before .before .before .before .strip .ensures)
+first-bytes-requires : tie.Need-first-bytes-requires
+first-bytes-requires c κs = search needs
 
 iban-text-requires : tie.Need-iban-text-requires
 iban-text-requires c κs = search needs
@@ -30,10 +24,11 @@ judged-requires c κs = search needs
 
 returns : tie.Need-returns
 returns c =
-    let d = c .before .before .before .before .before in
-    let e = d .before .before in
+    let d = c .before .before in
+    let e = d .before .before .before .before in
     c .judged .ensures
-    ∙ readable ibanReason _ _ (e .strip .ensures) _ (is-none _ (d .before .number .ensures) (d .if1 .taken)) (c .before .iban-text .ensures)
+    ∙ readable ibanReason _ _ (e .before .before .strip .ensures) _ (is-none _ (e .before .number .ensures) (e .if1 .taken))
+    (c .before .iban-text .ensures ∙ ap ibanReason (d .first-bytes .ensures))
 
 judged-requires-2 : tie.Need-judged-requires-2
 judged-requires-2 c κs = search needs
@@ -50,9 +45,7 @@ is-valid-iban-checksum-spec =
     (tie.spec
     strip-requires
     number-requires
-    sub-iban-text
-    part-iban-text-start
-    part-iban-text-end
+    first-bytes-requires
     iban-text-requires
     judged-requires
     returns
