@@ -1,0 +1,4 @@
+-- What a text looks like.
+pub mod Form
+pub mod Table
+pub mod Meaning
