@@ -1,10 +1,12 @@
 // UTF-8 text in a working area: one decoding step, the white points, stripping and normalising.
 mod area;
+mod read;
 mod space;
 mod utf8;
 mod white;
 
 pub use area::Text;
+pub use read::readable;
 pub use space::normalize_space;
 pub use space::strip;
 pub use utf8::Step;
