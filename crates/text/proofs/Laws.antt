@@ -1,4 +1,4 @@
--- The laws of the normalised and of the stripped text, for every list of bytes. Of request [11]: `twice` and `join`; `unchanged` serves a short route.
+-- The laws of the normalised and of the stripped text, for every list of bytes.
 use mathlib.Core.Path.{_≡_, refl, sym, ap, subst, _∙_}
 use mathlib.Core.List.{List, [], _∷_, _++_, map-append}
 use mathlib.Core.Bool.{Bool, true, false}
@@ -8,21 +8,20 @@ use native.Mathlib.Nat.{add-zero}
 use native.Mathlib.Omega.{arith}
 use borrow.Author.Tests.{leb-true}
 use lib.Dec.{leb}
-use lib.ListN.{length, replicate, length-append, length-map}
+use lib.ListN.{length, replicate, length-map}
 use lib.Seq.{take-at}
 use Rattle.answer.specs.declared.reason.Reason.{Reason}
-use Rattle.answer.specs.declared.reason.Reason.the-variants.{NoReason, Long, Utf8}
-use Rattle.text.specs.declared.area.Text.{Text}
+use Rattle.answer.specs.declared.reason.Reason.the-variants.{Long, Utf8}
 use Rattle.text.specs.Content.{Piece, Cell, Content, refused, content, contentFrom, contentOf, cells, cellsOf, bytesOf}
-use Rattle.text.specs.Words.{words, parts, spaceAfter, spaced, closed, normal, stripped}
+use Rattle.text.specs.Words.{words, spaceAfter, spaced, closed, normal, stripped}
 use Rattle.text.specs.Answer.{padded, kept, refusal, onContent, answer, normalText, strippedText, textOf}
-use Rattle.text.specs.Neat.{All, Dark, Neat, codes, WellFormed, joined, itself}
+use Rattle.text.specs.Neat.{All, Dark, Neat, codes, itself}
 use Rattle.text.proofs.Rows.{row-1}
 use Rattle.text.proofs.Padded.{length-padded}
 use Rattle.text.proofs.Points.{texts, texts-cells, length-cells}
-use Rattle.text.proofs.Sound.{Sound, placed, reread, Read, read}
+use Rattle.text.proofs.Sound.{Sound, placed, reread, read}
 use Rattle.text.proofs.Walk.{answer-short}
-use Rattle.text.proofs.Words.{all-append, all-words, all-spaced, all-closed, words-word, closed-dark, spaced-dark, words-append, settled, white-space, bytes-append, text-placed, Solid, solid, spaced-both, shorter, closed-shorter, neat-spaced, codes-placed}
+use Rattle.text.proofs.Words.{all-append, all-words, all-spaced, all-closed, words-word, closed-dark, spaced-dark, Solid, solid, shorter, closed-shorter, neat-spaced, codes-placed}
 
 -- ---- a text's bytes are those of its points
 
@@ -230,64 +229,6 @@ as-is s t d =
 
 pub unchanged : (s : List ℕ) (t : Taken s) → All Dark (t .points) → normalText s ≡ itself s
 unchanged s t d = as-is s t (spaced-dark (t .points) d)
-
--- normalising twice is normalising once: a normalised text is left as it is
-empty-again : normalText [] ≡ itself []
-unfolding normalText answer contentOf contentFrom normal words parts spaced cellsOf kept
-empty-again = refl
-
-again-taken : (s : List ℕ) (t : Taken s) → Taken (bytesOf (tidy (t .points)))
-again-taken s t =
-    record {
-      short = let h = rw (text-words s t) at (never-longer s) in let k = t .short in omega arith;
-      points = placed 0 (tidy (t .points));
-      reads = again normal tidy picks-normal s t;
-    }
-
-pub normal-again : (s : List ℕ) → normalText (textOf (normalText s)) ≡ itself (textOf (normalText s))
-unfolding normalText again-taken
-normal-again s =
-    ⊎-elim
-    (λ e. rw e empty-again)
-    (λ t. rw (text-words s t) (as-is _ (again-taken s t) (settled (words (t .points)) 0 (words-word (t .points)))))
-    (taken normal s)
-
-text-itself : (s : List ℕ) → textOf (itself s) ≡ s
-unfolding padded
-text-itself s = take-at s (replicate (1024 - length s) 0) (length s) refl
-
-pub twice : (s : List ℕ) → textOf (normalText (textOf (normalText s))) ≡ textOf (normalText s)
-twice s = ap textOf (normal-again s) ∙ text-itself (textOf (normalText s))
-
--- a well-formed content that is not too long is taken, and two with a space between them are well-formed
-pub done : (s : List ℕ) → WellFormed s → length s ≤ 1024 → normalText s .reason ≡ NoReason
-unfolding normalText kept
-done s (ps, e) h = ap (λ (t : Text). t .reason) (answer-taken normal s (record { short = h; points = ps; reads = e }))
-
-module _ (a b : List ℕ) (ps qs : List Piece) (r : Read 0 a ps) (q : Read 0 b qs) where
-  joint : contentOf (a ++ 0x20 ∷ b) ≡ content (placed 0 (ps ++ spaceAfter [] ∷ qs))
-  unfolding contentOf bytesOf
-  joint =
-      let g : bytesOf (ps ++ spaceAfter [] ∷ qs) ≡ a ++ 0x20 ∷ b = bytes-append ps (spaceAfter [] ∷ qs) ∙ rw (r .bytes, q .bytes) in
-      ap contentOf (sym g) ∙ reread (ps ++ spaceAfter [] ∷ qs) 0 (all-append Sound ps (spaceAfter [] ∷ qs) (r .sound) (space-sound [], q .sound))
-
-pub both : (a b : List ℕ) → WellFormed a → WellFormed b → WellFormed (a ++ 0x20 ∷ b)
-both a b (ps, e) (qs, f) = (placed 0 (ps ++ spaceAfter [] ∷ qs), joint a b ps qs (read a ps e) (read b qs f))
-
--- two well-formed contents with a space between them: their normalised texts with a space between, or the one that is there
-pub join : (a b : List ℕ) → WellFormed a → WellFormed b → length (a ++ 0x20 ∷ b) ≤ 1024
-    → textOf (normalText (a ++ 0x20 ∷ b)) ≡ joined (textOf (normalText a)) (textOf (normalText b))
-join a b (ps, e) (qs, f) h =
-    let r = read a ps e in
-    let q = read b qs f in
-    let k = simp length-append at h in
-    let x : Piece = spaceAfter [] in
-    text-words (a ++ 0x20 ∷ b) (record { short = h; points = placed 0 (ps ++ x ∷ qs); reads = joint a b ps qs r q })
-    ∙ text-placed (ps ++ x ∷ qs) 0
-    ∙ ap (λ (l : List (List Piece)). bytesOf (spaced l)) (words-append x ps qs white-space)
-    ∙ spaced-both (words ps) (words qs) (words-word ps) (words-word qs)
-    (all-words Solid ps (solid ps (r .sound))) (all-words Solid qs (solid qs (q .sound)))
-    ∙ rw (text-words a (record { short = omega arith; points = ps; reads = e }), text-words b (record { short = omega arith; points = qs; reads = f }))
 
 -- ---- stripping
 

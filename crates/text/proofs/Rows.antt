@@ -1,11 +1,9 @@
 -- The rows of RFC 3629's table as laws of `stepOf`, `two`, `three` and `four`, each under the tests that pick it.
 use mathlib.Core.Path.{_≡_, refl, sym, ap}
 use mathlib.Core.List.{List, [], _∷_}
-use mathlib.Core.Bool.{Bool, true, false, _&&_}
+use mathlib.Core.Bool.{true, false, _&&_}
 use Prim.Native.Nat.{ℕ, _+_, _*_, _%_, _≤_, _<_}
 use native.Mathlib.Omega.{arith}
-use borrow.Author.Tests.{le-leb, lt-leb}
-use lib.Dec.{leb}
 use lib.ListN.{length, getD, drop, length-drop, drop-of-length-le}
 use Rattle.ascii.proofs.Tests.{and-false}
 use Rattle.ascii.proofs.Class.{inside, below, above}

@@ -1,13 +1,13 @@
 -- The words in which the laws of the normalised and the stripped text are said.
 use mathlib.Core.Path.{_≡_}
 use Prim.Native.Nat.{ℕ, suc, _<_}
-use mathlib.Core.List.{List, [], _∷_, _++_, map}
+use mathlib.Core.List.{List, [], _∷_, map}
 use mathlib.Core.Bool.{true, false}
 use lib.ListN.{length, getD}
 use Rattle.text.specs.declared.area.Text.{Text}
 use Rattle.answer.specs.declared.reason.Reason.the-variants.{NoReason}
 use Rattle.text.specs.White.{isWhite}
-use Rattle.text.specs.Content.{Piece, content, contentOf}
+use Rattle.text.specs.Content.{Piece}
 use Rattle.text.specs.Answer.{padded}
 
 -- every entry of a list
@@ -34,16 +34,6 @@ Neat cs = (i : ℕ) → i < length cs → isWhite (getD cs i 0) ≡ true → Lon
 
 abbrev pub codes : List Piece → List ℕ
 codes ps = map (λ (p : Piece). p .code) ps
-
--- well-formed by RFC 3629
-abbrev pub WellFormed : List ℕ → Type 0
-WellFormed s = (ps : List Piece) × (contentOf s ≡ content ps)
-
--- two texts with a space between them, or the one that is there
-abbrev pub joined : List ℕ → List ℕ → List ℕ
-joined [] y = y
-joined (b ∷ x) [] = b ∷ x
-joined (b ∷ x) (c ∷ y) = (b ∷ x) ++ 0x20 ∷ c ∷ y
 
 -- a content as its own text
 abbrev pub itself : List ℕ → Text

@@ -13,7 +13,7 @@ pub struct Text {
     pub bytes: [u8; 1024],
 }
 
-pub fn refuse(reason: Reason) -> Text
+pub(crate) fn refuse(reason: Reason) -> Text
     ensures { λ r. ⌜ r ≡ refusal reason ⌝ }
 {
     let bytes = [0u8; 1024];
@@ -25,7 +25,7 @@ pub fn refuse(reason: Reason) -> Text
 }
 
 // The k bytes from `at` go to the area, from n on.
-pub fn copy_all(s: &[u8], at: usize, k: usize, out: &mut [u8; 1024], n: usize)
+pub(crate) fn copy_all(s: &[u8], at: usize, k: usize, out: &mut [u8; 1024], n: usize)
     requires { ⌜ (at + k ≤ length (now s)) × (n + k ≤ 1024) × (length (now out) ≡ 1024) ⌝ }
     ensures { λ _. ⌜ now (out .exit) ≡ paste (now (out .entry)) n (drop at (now (s .entry))) k ⌝ }
 {
@@ -37,7 +37,7 @@ pub fn copy_all(s: &[u8], at: usize, k: usize, out: &mut [u8; 1024], n: usize)
 }
 
 // The same for a code point, whose first byte goes at once.
-pub fn copy(s: &[u8], at: usize, k: usize, out: &mut [u8; 1024], n: usize)
+pub(crate) fn copy(s: &[u8], at: usize, k: usize, out: &mut [u8; 1024], n: usize)
     requires { ⌜ (1 ≤ k) × (at + k ≤ length (now s)) × (n + k ≤ 1024) × (length (now out) ≡ 1024) ⌝ }
     ensures { λ _. ⌜ now (out .exit) ≡ paste (now (out .entry)) n (drop at (now (s .entry))) k ⌝ }
 {

@@ -143,7 +143,7 @@ pub fn decode(s: &[u8], at: usize) -> Step
 }
 
 // The same, with the first row at hand: small enough to go into the loops below.
-pub fn next_point(s: &[u8], at: usize) -> Step
+pub(crate) fn next_point(s: &[u8], at: usize) -> Step
     ensures { λ r. ⌜ r ≡ stepOf (drop at (now (s .entry))) ⌝ }
 {
     if at < s.len() {

@@ -1,5 +1,4 @@
 -- `ascii::is_digit` meets its contract. Assumes nothing.
-use mathlib.Core.Path.{_≡_, refl}
 use borrow.Author.Tests.{lt-leb, le-leb}
 use Rattle.ascii.specs.Class.{within, isDigit}
 use Rattle.ascii.proofs.is_digit.Statement.{statement}

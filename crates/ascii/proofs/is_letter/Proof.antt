@@ -1,5 +1,4 @@
 -- `ascii::is_letter` meets its contract. Assumes nothing.
-use mathlib.Core.Path.{_≡_, refl}
 use native.Mathlib.Omega.{arith}
 use borrow.Author.Tests.{lt-leb, le-leb}
 use Rattle.ascii.specs.Class.{within, isLetter}

@@ -1,5 +1,5 @@
 -- `ascii::is_plain` meets its contract. Assumes nothing.
-use mathlib.Core.Path.{_≡_, ap, _∙_}
+use mathlib.Core.Path.{_≡_}
 use mathlib.Core.Bool.{Bool, _||_}
 use borrow.Author.Needs.{needs}
 use Rattle.ascii.specs.Class.{isPlain}

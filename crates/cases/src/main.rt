@@ -1,0 +1,43 @@
+// Runs the examples of standard input: each line is a command, a space and a content; it is written again with its answer behind it.
+ghost use Prim.Native.Nat.{_≤_};
+ghost use lib.ListN.{length};
+
+mod commands;
+mod escape;
+
+use libc::STDIN_FILENO;
+use libc::STDOUT_FILENO;
+
+// Where the line that begins at `at` ends: at its newline, or at the end.
+fn line_end(s: &[u8], at: usize) -> usize
+    requires { ⌜ at ≤ length (now s) ⌝ }
+    ensures { λ r. ⌜ (at ≤ r) × (r ≤ length (now (s .entry))) ⌝ }
+{
+    let mut i = at;
+    while i < s.len() {
+        if s[i] == b'\n' {
+            return i;
+        }
+        i += 1;
+    }
+    i
+}
+
+fn run_all(s: &[u8]) {
+    let mut at: usize = 0;
+    while at < s.len() {
+        let end = line_end(s, at);
+        let line = &s[at..end];
+        io::write_all(STDOUT_FILENO, line);
+        io::write_all(STDOUT_FILENO, b" =>");
+        commands::run(line);
+        io::write_all(STDOUT_FILENO, b"\n");
+        at = end + 1;
+    }
+}
+
+fn main() {
+    let mut buf = io::large_buffer();
+    let n = io::read_full(STDIN_FILENO, &mut buf);
+    run_all(&buf[..n]);
+}
