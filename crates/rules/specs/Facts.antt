@@ -1,5 +1,5 @@
 -- What is fixed about each rule: its published number, its severity, the scheme that it goes by, and whether it reads the content raw.
-use mathlib.Core.Bool.{Bool, true, false}
+use mathlib.Core.Bool.{true, false}
 use mathlib.Core.List.{List, [], _∷_}
 use Prim.Native.Nat.{ℕ}
 use Prim.Native.Char.{Char, code}

@@ -1,7 +1,7 @@
 // A text in its working area, and what puts bytes there.
 ghost use mathlib.Core.Path.{_≡_};
 ghost use Prim.Native.Nat.{_+_, _≤_};
-ghost use lib.ListN.{length, drop};
+ghost use lib.ListN.{length, take, drop};
 ghost use lib.Seq.{paste};
 ghost use Rattle.text.specs.Answer.{refusal};
 use answer::Reason;
@@ -11,6 +11,16 @@ pub struct Text {
     pub reason: Reason,
     pub len: usize,
     pub bytes: [u8; 1024],
+}
+
+// The first n bytes of an area, lent and not copied; all of them where there are no more.
+pub fn first_bytes(area: &[u8], n: usize) -> &[u8]
+    ensures { λ r. ⌜ now r ≡ take n (now (area .entry)) ⌝ }
+{
+    if n <= area.len() {
+        return &area[0..n];
+    }
+    area
 }
 
 pub(crate) fn refuse(reason: Reason) -> Text

@@ -6,6 +6,7 @@ mod utf8;
 mod white;
 
 pub use area::Text;
+pub use area::first_bytes;
 pub use read::readable;
 pub use space::normalize_space;
 pub use space::strip;

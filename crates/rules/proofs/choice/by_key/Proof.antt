@@ -1,9 +1,8 @@
 -- `rules::choice::by_key` meets its contract: each arm is the rule of its key, and past them all there is none.
-use mathlib.Core.Path.{_≡_, refl, sym, ap}
+use mathlib.Core.Path.{_≡_, sym, ap}
 use Prim.Native.Nat.{ℕ}
 use borrow.Author.Tests.{ne-eqb}
 use Rattle.ascii.specs.Pick.{pick}
-use Rattle.rules.specs.declared.choice.Chosen.{Chosen}
 use Rattle.rules.specs.Facts.{schemeRules}
 use Rattle.rules.specs.Keys.{withKey}
 use Rattle.rules.proofs.choice.by_key.Statement.{statement}
