@@ -43,3 +43,24 @@ met-zero x h e = rw (h, e) refl
 
 pub met-not-zero : {r : Finding} {y : Fault} {z t : Bool} (x : Bool) → y ≡ Fits → z ≡ false → t ≡ x → r ≡ judged Fits t → r ≡ judgedZero y z x
 met-not-zero x h d e g = rw (h, d, ← e) g
+
+-- what an accepted number shows
+pub good-parts : (y : Fault) (x : Bool) → isGood (judged y x) ≡ true → (y ≡ Fits) × (x ≡ true)
+good-parts Fits true h = (refl, refl)
+good-parts Fits false h = false-true h
+good-parts Length x h = false-true h
+good-parts (At k) x h = false-true h
+
+pub good-zero : (y : Fault) (z x : Bool) → isGood (judgedZero y z x) ≡ true → (y ≡ Fits) × (z ≡ false) × (x ≡ true)
+good-zero Fits true x h = false-true h
+good-zero Fits false x h = (refl, refl, good-parts Fits x h .1)
+good-zero Length z x h = false-true h
+good-zero (At k) z x h = false-true h
+
+-- where the form is met the figure decides
+pub good-by : {y : Fault} (x : Bool) → y ≡ Fits → isGood (judged y x) ≡ x
+good-by true h = rw h refl
+good-by false h = rw h refl
+
+pub good-by-zero : {y : Fault} {z : Bool} (x : Bool) → y ≡ Fits → z ≡ false → isGood (judgedZero y z x) ≡ x
+good-by-zero x h g = rw (h, g) (good-by x refl)

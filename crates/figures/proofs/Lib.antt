@@ -1,7 +1,10 @@
 -- Laws of check figures.
 mod Steps
-mod Judging
+pub mod Judging
 mod Digits
 mod Zeros
 mod Italian
 mod Signed
+pub mod Shift
+pub mod Links
+pub mod Detect

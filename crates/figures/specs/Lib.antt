@@ -3,3 +3,4 @@ pub mod Total
 pub mod Figures
 pub mod Findings
 pub mod Rules
+pub mod Changes
