@@ -23,15 +23,12 @@ use Rattle.figures.specs.Findings.{isGood, judged}
 use Rattle.figures.specs.Rules.{gln, mod11, mod97, seOrgnr, abn}
 use Rattle.figures.specs.Changes.{exchanged, digitAt, RefusesReplaced, AcceptsExchanged, never, byFive, zeroAndNine}
 use Rattle.figures.specs.declared.finding.Finding.{Finding}
+use Rattle.figures.proofs.Digits.{all-end}
 use Rattle.figures.proofs.Judging.{good-by}
 use Rattle.figures.proofs.Shift.{cancel, replaced, pair, swapped}
 use Rattle.figures.proofs.Links.{Right, Links, gln-links, mod11-links, mod97-links, se-orgnr-links, abn-links}
 
 -- ---- the digits of a number u ++ a ∷ v
-
-all-end : (u x : List ℕ) → all isDigit (u ++ x) ≡ true → all isDigit x ≡ true
-all-end [] x h = h
-all-end (b ∷ u) x h = all-end u x (all-rest isDigit b (u ++ x) h)
 
 head-digit : (u : List ℕ) (a : ℕ) (v : List ℕ) → all isDigit (u ++ a ∷ v) ≡ true → (48 ≤ a) × (a ≤ 57)
 head-digit u a v h = digit-bounds a (all-first isDigit a v (all-end u (a ∷ v) h))

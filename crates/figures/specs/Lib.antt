@@ -4,3 +4,4 @@ pub mod Figures
 pub mod Findings
 pub mod Rules
 pub mod Changes
+pub mod Completing
