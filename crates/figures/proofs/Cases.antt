@@ -7,7 +7,6 @@ use Prim.Native.String.{String}
 use Rattle.ascii.specs.Class.{all, within, isDigit, isLetter, isPlain}
 use Rattle.ascii.specs.Pick.{pick}
 use Rattle.ascii.specs.Written.{bytes}
-use Rattle.answer.specs.Numbers.{reasonNumber}
 use Rattle.answer.specs.declared.reason.Reason.{Reason}
 use Rattle.answer.specs.declared.reason.Reason.the-variants.{NoReason, Form, Check, Zero, NoFigure}
 use Rattle.forms.specs.Form.{ofClass, wrong, faultOf}

@@ -4,7 +4,7 @@ use mathlib.Core.Path.{_≡_, refl, _∙_, sym, ap}
 use mathlib.Core.Bool.{Bool, true, false, not, _&&_}
 use mathlib.Core.List.{List, [], _∷_, _++_}
 use mathlib.Core.Logic.{_↔_}
-use Prim.Native.Nat.{ℕ, zero, suc, _+_, _-_, _*_, _%_, _/_, _^_, _≤_, _<_}
+use Prim.Native.Nat.{ℕ, suc, _+_, _-_, _*_, _%_, _/_, _≤_, _<_}
 use native.Mathlib.Nat.{mod-add-mod, mod-lt}
 use native.Mathlib.Omega.{arith}
 use borrow.Author.Tests.{eqb-true, eqb-false, eq-eqb, ne-eqb}
@@ -14,13 +14,11 @@ use lib.ListN.{length, length-append, take, drop}
 use lib.Seq.{take-at, drop-at}
 use Rattle.ascii.specs.Pick.{pick}
 use Rattle.ascii.specs.Class.{isDigit, all}
-use Rattle.ascii.proofs.Tests.{false-true, and-true, not-true, eqb-iff, same, same-eq, below, below-at}
+use Rattle.ascii.proofs.Tests.{false-true, not-true, eqb-iff, same, same-eq, below, below-at}
 use Rattle.ascii.proofs.Class.{digit-bounds, digit-inside, all-first, all-rest, all-cons, all-nil, all-append}
-use Rattle.answer.specs.declared.reason.Reason.{Reason}
 use Rattle.answer.specs.declared.reason.Reason.the-variants.{NoReason, Zero, NoFigure}
 use Rattle.forms.specs.Form.{faultOf}
 use Rattle.forms.specs.Table.{digits}
-use Rattle.forms.specs.declared.form.Fault.the-variants.{Fits}
 use Rattle.forms.proofs.OfDigits.{Digits, fit-digits}
 use Rattle.figures.specs.Total.{total, number}
 use Rattle.figures.specs.Figures.{Figure, adds, totalBy, right, figure40, figure41, luhn, figure50}
@@ -31,8 +29,8 @@ use Rattle.figures.specs.declared.finding.Finding.{Finding}
 use Rattle.figures.proofs.Digits.{all-end, all-front}
 use Rattle.figures.proofs.Zeros.{zeros41}
 use Rattle.figures.proofs.Judging.{good-by, good-by-zero, good-zero}
-use Rattle.figures.proofs.Shift.{exchange}
-use Rattle.figures.proofs.Links.{Links, Right, gln-links, mod11-links, mod97-links, se-orgnr-links, abn-links, total-reduced, leaves-ten, ten-leaves}
+use Rattle.figures.proofs.Shift.{total-end}
+use Rattle.figures.proofs.Links.{Links, gln-links, mod11-links, mod97-links, se-orgnr-links, abn-links, total-reduced, leaves-ten, ten-leaves}
 
 -- ---- one check digit
 
@@ -62,7 +60,7 @@ module _ (fold : Bool) (ws : List ℕ) (m : ℕ) (some : 0 < m) (t : meets m ≡
       let e : c + 48 - 48 ≡ c = omega arith in
       omega (
         arith,
-        exchange (adds fold ws) u (oneDigit c) (oneDigit 0) refl,
+        total-end (adds fold ws) u (oneDigit c) (oneDigit 0) refl,
         ap (adds fold ws 0) e,
         once c l,
         once 0 (omega arith),

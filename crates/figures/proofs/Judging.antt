@@ -1,13 +1,13 @@
 -- How form and figure come to a finding. Assumes nothing.
 use mathlib.Core.Path.{_≡_, refl, _∙_, sym, ap}
-use mathlib.Core.Bool.{Bool, true, false, _&&_}
+use mathlib.Core.Bool.{Bool, true, false}
 use Rattle.ascii.proofs.Tests.{false-true}
 use Rattle.forms.specs.Form.{isFit}
 use Rattle.forms.specs.declared.form.Fault.{Fault}
 use Rattle.forms.specs.declared.form.Fault.the-variants.{Fits, Length, At}
 use Rattle.figures.specs.Findings.{isGood, judged, judgedZero}
 use Rattle.figures.specs.declared.finding.Finding.{Finding}
-use Rattle.figures.specs.declared.finding.Finding.the-variants.{Good, Zero, Wrong, Unfit}
+use Rattle.figures.specs.declared.finding.Finding.the-variants.{Zero, Unfit}
 
 -- what the code knows where its test of the fault x, which is y by the definition, passes or not
 module _ (x : Fault) {y : Fault} {t : Bool} (e : t ≡ isFit x) (q : x ≡ y) where

@@ -2,11 +2,11 @@
 use mathlib.Core.Path.{_≡_, refl, _∙_, sym, ap}
 use mathlib.Core.Bool.{Bool, true, false, cond}
 use mathlib.Core.List.{List, [], _∷_, _++_}
-use Prim.Native.Nat.{ℕ, zero, suc, _+_, _-_, _*_, _%_, _^_, _≤_, _<_}
+use Prim.Native.Nat.{ℕ, zero, suc, _+_, _-_, _*_, _%_, _^_, _<_}
 use native.Mathlib.Omega.{arith}
 use borrow.Author.Tests.{eqb-true, le-ltb, ltb-true, ltb-false}
 use lib.Dec.{eqb, ltb}
-use lib.IntN.{ℤ, pos, negsuc, natAbs, subℕ, predℤ, -ℤ-one, _+ℤ_, _-ℤ_, _*ℤ_}
+use lib.IntN.{pos, negsuc, natAbs, subℕ, -ℤ-one, _+ℤ_, _-ℤ_, _*ℤ_}
 use lib.ListN.{length, take, drop, length-append, length-take, length-drop, take-append-drop}
 use Rattle.ascii.proofs.Tests.{below, below-at}
 use Rattle.forms.specs.Form.{faultOf}

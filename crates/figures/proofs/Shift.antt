@@ -1,19 +1,13 @@
--- How a total changes where some of the last digits do, to any modulus. Assumes nothing.
-use mathlib.Core.Path.{_≡_, refl, _∙_, sym, ap}
+-- How a total changes with the digits, for any weights and to any modulus. Assumes nothing.
+use mathlib.Core.Path.{_≡_, _∙_, sym, ap}
 use mathlib.Core.List.{List, [], _∷_, _++_}
-use Prim.Native.Nat.{ℕ, zero, suc, _+_, _-_, _*_, _%_, _≤_, _<_}
-use native.Mathlib.Nat.{mod-zero, mod-add-mod, mul-add-mod-self-right}
+use Prim.Native.Nat.{ℕ, zero, suc, _+_, _-_, _*_, _%_, _<_}
+use native.Mathlib.Nat.{mod-zero, mod-add-mod, mul-add-mod-self-right, not-suc-le-zero}
 use native.Mathlib.Omega.{arith}
-use lib.ListN.{length, length-append}
-use Rattle.figures.specs.Total.{total}
-
--- a digit list's tail exchanged for another of its length
-pub exchange : (f : ℕ → ℕ → ℕ) (u x y : List ℕ) → length x ≡ length y
-    → total f (u ++ x) + total f y ≡ total f (u ++ y) + total f x
-exchange f [] x y h = omega arith
-exchange f (c ∷ u) x y h =
-    let e : length (u ++ x) ≡ length (u ++ y) = omega (arith, length-append u x, length-append u y) in
-    omega (arith, exchange f u x y h, ap (λ n. f n (c - 48)) e)
+use lib.ListN.{length, getD, set, length-append, length-set}
+use lib.Seq.{getD-set-other}
+use Rattle.figures.specs.Total.{total, digitAt}
+use Rattle.figures.specs.Changes.{exchanged}
 
 -- equal remainders, and equal sums: the other parts have equal remainders
 pub cancel : (m a b x y : ℕ) → a % m ≡ b % m → a + y ≡ b + x → x % m ≡ y % m
@@ -31,18 +25,33 @@ cancel (suc n) a b x y h e =
     ∙ ap (λ z. z % suc n) (sym p)
     ∙ mul-add-mod-self-right a (suc n) y
 
--- one digit replaced
-pub replaced : (f : ℕ → ℕ → ℕ) (m : ℕ) (u v : List ℕ) (a b : ℕ)
-    → total f (u ++ a ∷ v) % m ≡ total f (u ++ b ∷ v) % m
-    → f (length v) (a - 48) % m ≡ f (length v) (b - 48) % m
-replaced f m u v a b h =
-    cancel m (total f (u ++ a ∷ v)) (total f (u ++ b ∷ v)) (f (length v) (a - 48)) (f (length v) (b - 48)) h
-    (omega (arith, exchange f u (a ∷ v) (b ∷ v) refl))
+module _ (f : ℕ → ℕ → ℕ) where
+  -- the end of a number exchanged for another of its length
+  pub total-end : (u x y : List ℕ) → length x ≡ length y → total f (u ++ x) + total f y ≡ total f (u ++ y) + total f x
+  total-end [] x y h = omega arith
+  total-end (c ∷ u) x y h =
+      let e : length (u ++ x) ≡ length (u ++ y) = omega (arith, length-append u x, length-append u y) in
+      omega (arith, total-end u x y h, ap (λ n. f n (c - 48)) e)
 
--- two neighbours exchanged: what the two add, with k digits to their right
-abbrev pub pair : (ℕ → ℕ → ℕ) → ℕ → ℕ → ℕ → ℕ
-pair f k a b = f (suc k) a + f k b
+  -- the digit at i replaced
+  pub total-set : (s : List ℕ) (i v : ℕ) → i < length s
+      → total f (set s i v) + f (length s - 1 - i) (digitAt s i) ≡ total f s + f (length s - 1 - i) (v - 48)
+  total-set [] i v h = absurd (not-suc-le-zero h)
+  total-set (b ∷ s) zero v h =
+      let k : suc (length s) - 1 - 0 ≡ length s = omega arith in
+      rw k (omega arith)
+  total-set (b ∷ s) (suc i) v h =
+      let k : suc (length s) - 1 - suc i ≡ length s - 1 - i = omega arith in
+      let ih = total-set s i v (omega arith) in
+      rw (k, length-set s i v) (omega arith)
 
-pub swapped : (f : ℕ → ℕ → ℕ) (u v : List ℕ) (a b : ℕ)
-    → total f (u ++ a ∷ b ∷ v) + pair f (length v) (b - 48) (a - 48) ≡ total f (u ++ b ∷ a ∷ v) + pair f (length v) (a - 48) (b - 48)
-swapped f u v a b = omega (arith, exchange f u (a ∷ b ∷ v) (b ∷ a ∷ v) refl)
+  -- the digits at i and i + 1 exchanged
+  pub total-exchanged : (s : List ℕ) (i : ℕ) → i + 1 < length s
+      → total f (exchanged s i) + (f (length s - 1 - i) (digitAt s i) + f (length s - 1 - (i + 1)) (digitAt s (i + 1)))
+      ≡ total f s + (f (length s - 1 - i) (digitAt s (i + 1)) + f (length s - 1 - (i + 1)) (digitAt s i))
+  total-exchanged s i h =
+      let a = getD s i 0 in
+      let b = getD s (i + 1) 0 in
+      let one = total-set s i b (omega arith) in
+      let two = rw (length-set s i b, getD-set-other s i (i + 1) b 0 (λ q. omega arith)) at (total-set (set s i b) (i + 1) a (simp length-set (omega arith))) in
+      omega arith

@@ -2,18 +2,16 @@
 use mathlib.Core.Path.{_≡_}
 use mathlib.Core.Bool.{Bool, true, false, _&&_, _||_}
 use mathlib.Core.List.{List}
-use Prim.Native.Nat.{ℕ, _+_, _-_, _<_}
+use Prim.Native.Nat.{ℕ, _+_, _<_}
 use lib.Dec.{eqb}
 use lib.ListN.{length, getD, set}
+use Rattle.figures.specs.Total.{digitAt}
 use Rattle.figures.specs.Findings.{isGood}
 use Rattle.figures.specs.declared.finding.Finding.{Finding}
 
 -- the digits at i and i + 1 exchanged (the one at i replaced by v is `set s i v`)
 abbrev pub exchanged : List ℕ → ℕ → List ℕ
 exchanged s i = set (set s i (getD s (i + 1) 0)) (i + 1) (getD s i 0)
-
-abbrev pub digitAt : List ℕ → ℕ → ℕ
-digitAt s i = getD s i 0 - 48
 
 -- an accepted number with one digit replaced by another, or by any other byte, is refused
 abbrev pub RefusesReplaced : (List ℕ → Finding) → Type 0

@@ -49,7 +49,7 @@ seOrgnrCheck body = oneDigit (lacks luhn body)
 abbrev pub abnCheck : List ℕ → List ℕ
 abnCheck body = twoDigits (99 - totalBy figure50 body % 89)
 
--- x completes what `put` puts together: with x the number is accepted, and with no other text of that length that is least or more
+-- `put` makes a number of the body and a figure: with x it is accepted, and with no other text of x's length that writes `least` or more
 pub record Completes (rule : List ℕ → Finding) (put : List ℕ → List ℕ) (least : ℕ) (x : List ℕ) : Type 0 where
   pub accepted : isGood (rule (put x)) ≡ true
   pub alone : (y : List ℕ) → length y ≡ length x → least ≤ number y → isGood (rule (put y)) ≡ true → y ≡ x
