@@ -4,10 +4,10 @@ ghost use lib.ListN.{drop};
 ghost use Rattle.text.specs.Utf8.{stepOf};
 ghost use Rattle.text.specs.White.{isWhite};
 ghost use Rattle.text.specs.Answer.{normalText, strippedText};
-ghost use Rattle.partyid.specs.Plain.{plainPoint, plainText};
+ghost use Rattle.partyid.specs.Plain.{plainPoint, Shown};
 use super::plain::PartyidPoint;
 use super::plain::PartyidText;
-use super::plain::lay;
+use super::plain::plain;
 use super::plain::point;
 
 #[no_mangle]
@@ -26,14 +26,14 @@ pub extern "C" fn partyid_is_white(c: u32) -> bool
 
 #[no_mangle]
 pub extern "C" fn partyid_normalize_space(content: &[u8], area: &mut [u8; 1024]) -> PartyidText
-    ensures { λ r. ⌜ (r ≡ plainText (normalText (now (content .entry)))) × (now (area .exit) ≡ normalText (now (content .entry)) .bytes) ⌝ }
+    ensures { λ r. ⌜ Shown (normalText (now (content .entry))) r (now (area .exit)) ⌝ }
 {
-    lay(text::normalize_space(content), area)
+    plain(text::normalize_into(content, area))
 }
 
 #[no_mangle]
 pub extern "C" fn partyid_strip(content: &[u8], area: &mut [u8; 1024]) -> PartyidText
-    ensures { λ r. ⌜ (r ≡ plainText (strippedText (now (content .entry)))) × (now (area .exit) ≡ strippedText (now (content .entry)) .bytes) ⌝ }
+    ensures { λ r. ⌜ Shown (strippedText (now (content .entry))) r (now (area .exit)) ⌝ }
 {
-    lay(text::strip(content), area)
+    plain(text::strip_into(content, area))
 }

@@ -1,8 +1,8 @@
 // Answers as plain numbers, laid out as in C.
 ghost use mathlib.Core.Path.{_≡_};
 ghost use Rattle.partyid.specs.Plain.{plainPoint, plainText};
+use text::Kept;
 use text::Step;
-use text::Text;
 
 // A code point and how many bytes it takes; length 0 is the refusal.
 #[repr(C)]
@@ -27,14 +27,12 @@ pub fn point(s: Step) -> PartyidPoint
     }
 }
 
-pub fn lay(t: Text, area: &mut [u8; 1024]) -> PartyidText
-    ensures { λ r. ⌜ (r ≡ plainText t) × (now (area .exit) ≡ t .bytes) ⌝ }
+pub fn plain(k: Kept) -> PartyidText
+    ensures { λ r. ⌜ r ≡ plainText (k .reason) (k .len) ⌝ }
 {
-    let why = t.reason;
-    let bytes = t.bytes;
-    *area = bytes;
+    let why = k.reason;
     PartyidText {
         reason: why.number(),
-        len: t.len,
+        len: k.len,
     }
 }
