@@ -1,5 +1,8 @@
 -- The four kinds of answer. Verdicts 0, 1 and 3 have reason 0; verdict 0 has rule and severity 0; a reason comes with verdict 2.
+use mathlib.Core.Bool.{Bool, cond}
 use Prim.Native.Nat.{ℕ}
+use lib.Dec.{eqb}
+use Rattle.answer.specs.Numbers.{reasonNumber}
 use Rattle.answer.specs.declared.record.Answer.{Answer}
 use Rattle.answer.specs.declared.verdict.Verdict.the-variants.{NoRule, Accepted, Refused, Unread}
 use Rattle.answer.specs.declared.severity.Severity.{Severity}
@@ -19,3 +22,15 @@ unread n s = record { verdict = Unread; rule = n; severity = s; reason = NoReaso
 
 abbrev pub refused : ℕ → Severity → Reason → Answer
 refused n s r = record { verdict = Refused; rule = n; severity = s; reason = r }
+
+-- no reason is given
+unfoldable pub none : Reason → Bool
+none r = eqb (reasonNumber r) 0
+
+-- of two reasons the first that is given
+unfoldable pub first : Reason → Reason → Reason
+first r s = cond (none r) s r
+
+-- accepted where no reason is given, else refused by it
+unfoldable pub judged : ℕ → Severity → Reason → Answer
+judged n s r = cond (none r) (accepted n s) (refused n s r)

@@ -4,9 +4,9 @@ use mathlib.Core.List.{List, [], _∷_, _++_, map}
 use Prim.Native.Nat.{ℕ}
 use Rattle.ascii.specs.Pick.{pick}
 use Rattle.ascii.specs.Written.{bytes}
-use Rattle.ascii.specs.Class.{within, isDigit, isLetter, all}
+use Rattle.ascii.specs.Class.{within, isDigit, isLetter, all, among}
 use Rattle.text.specs.Utf8.{two, three, four, stepOf}
-use Rattle.text.specs.White.{among, whitePoints, isWhite}
+use Rattle.text.specs.White.{whitePoints, isWhite}
 use Rattle.text.specs.Content.{contentFrom, contentOf}
 use Rattle.forms.specs.declared.form.Fault.{Fault}
 use Rattle.forms.specs.declared.form.Fault.the-variants.{Fits, Length, At}

@@ -10,10 +10,10 @@ use lib.Dec.{eqb}
 use lib.ListN.{length, getD, drop, drop-of-length-le}
 use lib.Seq.{drop-cons}
 use Rattle.ascii.specs.Pick.{pick}
-use Rattle.ascii.specs.Class.{within, isDigit, all}
+use Rattle.ascii.specs.Class.{within, isDigit, all, among}
 use Rattle.ascii.proofs.Tests.{false-true, implies, implies-use, below, below-at}
 use Rattle.ascii.proofs.Class.{digit-bounds}
-use Rattle.text.specs.White.{among, whitePoints, isWhite}
+use Rattle.text.specs.White.{whitePoints, isWhite}
 use Rattle.codice.specs.Integer.{isEmpty, past, trimEnd, isSign, unsigned, someDigits, integerText}
 
 -- ---- digits and signs are not white, and a digit is no sign

@@ -1,0 +1,14 @@
+-- What a step of the remainder keeps; no rule cites this.
+use mathlib.Core.Path.{_≡_}
+use mathlib.Core.List.{List, _++_}
+use Prim.Native.Nat.{ℕ, _+_, _*_, _%_, _^_}
+use lib.ListN.{length}
+use Rattle.accounts.specs.Spelled.{valueOf, written, decimal}
+
+-- what the digits of r, followed by the digits ds, leave by 97
+unfoldable pub after : ℕ → List ℕ → ℕ
+after r ds = (r * 10 ^ length ds + decimal ds) % 97
+
+-- r stands for what acc and the byte b after it stand for, whatever follows
+pub record Steps (acc b r : ℕ) : Type 0 where
+  pub on : (ds : List ℕ) → after r ds ≡ after acc (written (valueOf b) ++ ds)

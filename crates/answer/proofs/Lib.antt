@@ -1,0 +1,2 @@
+-- Laws that every crate above may cite.
+pub mod Laws
