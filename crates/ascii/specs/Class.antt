@@ -1,9 +1,9 @@
 -- The classes of a byte or a code point. ASCII alone counts.
-use mathlib.Core.Bool.{Bool, true, _&&_, _||_}
+use mathlib.Core.Bool.{Bool, true, false, _&&_, _||_}
 use mathlib.Core.List.{List, [], _∷_}
 use Prim.Native.Nat.{ℕ}
 use Prim.Native.Char.{code}
-use lib.Dec.{leb}
+use lib.Dec.{leb, eqb}
 
 unfoldable pub within : ℕ → ℕ → ℕ → Bool
 within low high c = leb low c && leb c high
@@ -22,3 +22,8 @@ isPlain c = isDigit c || isLetter c
 unfoldable pub all : (ℕ → Bool) → List ℕ → Bool
 all p [] = true
 all p (c ∷ l) = p c && all p l
+
+-- one of a list
+unfoldable pub among : ℕ → List ℕ → Bool
+among c [] = false
+among c (d ∷ l) = eqb d c || among c l

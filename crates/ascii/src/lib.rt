@@ -1,6 +1,6 @@
-// The classes of a byte or a code point: ASCII digits and letters.
+// The classes of a byte or a code point: ASCII digits and letters, and lists of them.
 ghost use mathlib.Core.Path.{_≡_};
-ghost use Rattle.ascii.specs.Class.{isDigit, isLetter, isPlain};
+ghost use Rattle.ascii.specs.Class.{isDigit, isLetter, isPlain, among};
 
 // A byte as a code point.
 pub fn wide(b: u8) -> u32
@@ -38,4 +38,18 @@ pub fn is_plain(c: u32) -> bool
     ensures { λ r. ⌜ r ≡ isPlain c ⌝ }
 {
     is_digit(c) | is_letter(c)
+}
+
+// Whether c stands in a list.
+pub fn among(c: u32, list: &[u32]) -> bool
+    ensures { λ r. ⌜ r ≡ among c (now (list .entry)) ⌝ }
+{
+    let mut i: usize = 0;
+    while i < list.len() {
+        if list[i] == c {
+            return true;
+        }
+        i += 1;
+    }
+    false
 }

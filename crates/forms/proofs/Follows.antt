@@ -19,7 +19,7 @@ follows [] r s = all (ofClass r) s
 follows (k ∷ h) r [] = true
 follows (k ∷ h) r (b ∷ s) = ofClass k b && follows h r s
 
-fit-first : (t : Bool) (x : Fault) (k : ℕ) → isFit (pick t x (At k)) ≡ t && isFit x
+pub fit-first : (t : Bool) (x : Fault) (k : ℕ) → isFit (pick t x (At k)) ≡ t && isFit x
 unfolding pick
 fit-first true x k = refl
 fit-first false x k = refl

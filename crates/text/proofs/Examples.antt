@@ -2,10 +2,10 @@
 use mathlib.Core.Path.{_≡_, refl}
 use mathlib.Core.List.{List, [], _∷_, map}
 use Prim.Native.Nat.{ℕ}
-use Rattle.ascii.specs.Class.{within}
+use Rattle.ascii.specs.Class.{within, among}
 use Rattle.ascii.specs.Pick.{pick}
 use Rattle.text.specs.Utf8.{two, three, four, stepOf}
-use Rattle.text.specs.White.{among, whitePoints, isWhite}
+use Rattle.text.specs.White.{whitePoints, isWhite}
 use Rattle.text.specs.Content.{contentFrom, contentOf, cells, cellsOf}
 use Rattle.text.specs.Words.{parts, words, spaced, closed, normal, stripped}
 use Rattle.text.specs.Answer.{padded, kept, refusal, answer, normalText, strippedText, textOf}

@@ -14,7 +14,7 @@ use Rattle.answer.specs.declared.reason.Reason.{Reason}
 use Rattle.answer.specs.declared.reason.Reason.the-variants.{Long, Utf8}
 use Rattle.text.specs.Content.{Piece, Cell, Content, refused, content, contentFrom, contentOf, cells, cellsOf, bytesOf}
 use Rattle.text.specs.Words.{words, spaceAfter, spaced, closed, normal, stripped}
-use Rattle.text.specs.Answer.{padded, kept, refusal, onContent, answer, normalText, strippedText, textOf}
+use Rattle.text.specs.Answer.{unread, readableOf, padded, kept, refusal, onContent, answer, normalText, strippedText, textOf}
 use Rattle.text.specs.Neat.{All, Dark, Neat, codes, itself}
 use Rattle.text.proofs.Rows.{row-1}
 use Rattle.text.proofs.Padded.{length-padded}
@@ -40,6 +40,26 @@ pub record Taken (s : List ℕ) : Type 0 where
   pub short : length s ≤ 1024
   pub points : List Piece
   pub reads : contentOf s ≡ content points
+
+-- ---- normalising and stripping refuse what can't be read, by the same reason
+
+reason-on : (c : Content) (f : List Piece → List Cell) → onContent c f .reason ≡ unread c
+unfolding kept refusal
+reason-on refused f = refl
+reason-on (content ps) f = refl
+
+reason-at : (f : List Piece → List Cell) (s : List ℕ) (t : Bool) → leb (length s) 1024 ≡ t → answer f s .reason ≡ readableOf s
+unfolding answer readableOf refusal
+reason-at f s true e = rw e (reason-on (contentOf s) f)
+reason-at f s false e = rw e
+
+pub reason-normal : (s : List ℕ) → normalText s .reason ≡ readableOf s
+unfolding normalText
+reason-normal s = reason-at normal s (leb (length s) 1024) refl
+
+pub reason-stripped : (s : List ℕ) → strippedText s .reason ≡ readableOf s
+unfolding strippedText
+reason-stripped s = reason-at stripped s (leb (length s) 1024) refl
 
 -- ---- what holds of every way to pick points of a content: g says which, and f what is kept of them
 

@@ -12,7 +12,7 @@ use Rattle.text.specs.declared.utf8.Step.the-variants.{Point, Refused}
 use Rattle.ascii.specs.Pick.{pick}
 use Rattle.text.specs.Utf8.{two, three, four, stepOf}
 use Rattle.text.specs.Content.{Piece, Cell, Content, refused, content, withFirst, contentFrom, cells}
-use Rattle.text.specs.Answer.{onContent}
+use Rattle.text.specs.Answer.{unread, onContent}
 
 -- a point takes one byte at least, and no more than there are
 abbrev Good : List ℕ → Step → Type 0
@@ -76,6 +76,10 @@ unroll-list o c (suc m) (a ∷ l) e =
     let f : suc m - 1 ≡ m = omega arith in
     rw (← e, f, skip (suc o) m l, suc-add, ← add-suc)
 
+unread-first : (p : Piece) (c : Content) → unread c ≡ unread (withFirst p c)
+unread-first p refused = refl
+unread-first p (content ps) = refl
+
 module _ (s : List ℕ) (at : ℕ) where
   abbrev pub rest : Content
   rest = contentFrom at 0 (drop at s)
@@ -86,6 +90,9 @@ module _ (s : List ℕ) (at : ℕ) where
   unroll : (c n : ℕ) → Point c n ≡ stepOf (drop at s)
       → rest ≡ withFirst (record { at = at; code = c; bytes = take n (drop at s) }) (contentFrom (at + n) 0 (drop (at + n) s))
   unroll c n e = rw (← drop-drop n at s) (unroll-list at c n (drop at s) e)
+
+  pub unread-on : (c n : ℕ) → Point c n ≡ stepOf (drop at s) → unread (contentFrom (at + n) 0 (drop (at + n) s)) ≡ unread rest
+  unread-on c n e = rw (unroll c n e) (unread-first _ (contentFrom (at + n) 0 (drop (at + n) s)))
 
   pub at-refused : at < length s → Refused ≡ stepOf (drop at s) → rest ≡ refused
   unfolding contentFrom

@@ -1,14 +1,23 @@
--- What normalising and stripping hand back.
+-- Which contents can be read, and what normalising and stripping hand back.
 use Prim.Native.Nat.{ℕ, _-_}
 use mathlib.Core.List.{List, [], _++_, map}
 use mathlib.Core.Bool.{cond}
 use lib.Dec.{leb}
 use lib.ListN.{length, take, replicate}
 use Rattle.text.specs.declared.area.Text.{Text}
+use Rattle.text.specs.declared.area.Kept.{Kept}
 use Rattle.answer.specs.declared.reason.Reason.{Reason}
 use Rattle.answer.specs.declared.reason.Reason.the-variants.{NoReason, Long, Utf8}
 use Rattle.text.specs.Content.{Content, refused, content, contentOf, Cell, Piece}
 use Rattle.text.specs.Words.{normal, stripped}
+
+abbrev pub unread : Content → Reason
+unread refused = Utf8
+unread (content ps) = NoReason
+
+-- why a content can't be read: it is too long, or else not well-formed
+unfoldable pub readableOf : List ℕ → Reason
+readableOf s = cond (leb (length s) 1024) (unread (contentOf s)) Long
 
 -- a list in an area of 1,024 numbers, with zeros after it
 unfoldable pub padded : List ℕ → List ℕ
@@ -32,6 +41,10 @@ normalText s = answer normal s
 
 unfoldable pub strippedText : List ℕ → Text
 strippedText s = answer stripped s
+
+-- what an area holds, as a text
+abbrev pub textIn : Kept → List ℕ → Text
+textIn k area = record { reason = k .reason; len = k .len; bytes = area }
 
 -- the bytes of a text, without the zeros after them
 abbrev pub textOf : Text → List ℕ

@@ -1,0 +1,82 @@
+-- What an answer of `codiceFault` means. Assumes nothing.
+use mathlib.Core.Path.{_≡_, refl, _∙_, ap}
+use mathlib.Core.Bool.{Bool, true, false, _&&_}
+use mathlib.Core.List.{List, [], _∷_}
+use Prim.Native.Nat.{ℕ, _≤_}
+use native.Mathlib.Omega.{arith}
+use borrow.Author.Tests.{eqb-true}
+use lib.Dec.{eqb}
+use lib.ListN.{length, getD, length-map}
+use lib.Seq.{take-all}
+use Rattle.ascii.specs.Pick.{pick}
+use Rattle.ascii.specs.Class.{isDigit, all}
+use Rattle.ascii.proofs.Tests.{and-true, false-true}
+use Rattle.text.specs.White.{isWhite}
+use Rattle.text.specs.Content.{Piece, refused, content, contentOf}
+use Rattle.text.specs.Neat.{codes}
+use Rattle.forms.specs.declared.form.Fault.the-variants.{Length}
+use Rattle.forms.specs.Form.{isFit}
+use Rattle.forms.proofs.Follows.{fit-first}
+use Rattle.codice.specs.Integer.{isEmpty, past, trimEnd, isSign, unsigned, someDigits, integerText}
+use Rattle.codice.specs.Codice.{Group, part, groupsOf16, groupsOf11, places, failing, codiceOf, codiceFault}
+use Rattle.codice.specs.Meaning.{passes, isCodice}
+use Rattle.codice.proofs.Laws.{and-right}
+use Rattle.codice.proofs.Trim.{digit-dark, digit-unsigned, some-first, integer-read}
+
+-- no group fails exactly when each passes
+pub fit-passes : (gs : List Group) (cs ats : List ℕ) → isFit (failing gs cs ats) ≡ passes gs cs
+unfolding failing passes
+fit-passes [] cs ats = refl
+fit-passes (g ∷ gs) cs ats =
+    fit-first (g .test (part g cs)) (failing gs cs ats) (getD ats (g .first) 0)
+    ∙ ap (λ (x : Bool). g .test (part g cs) && x) (fit-passes gs cs ats)
+
+-- 11 points are one group
+whole : (cs : List ℕ) → length cs ≡ 11 → passes groupsOf11 cs ≡ integerText cs
+unfolding passes
+whole cs h = let l : length cs ≤ 11 = omega arith in rw (take-all 11 cs l) (and-right (integerText cs))
+
+by-count : (cs ats : List ℕ) (t u : Bool) → eqb (length cs) 11 ≡ u
+    → isFit (pick t (failing groupsOf16 cs ats) (pick u (failing groupsOf11 cs ats) Length)) ≡ pick t (passes groupsOf16 cs) (u && integerText cs)
+unfolding pick
+by-count cs ats true u f = fit-passes groupsOf16 cs ats
+by-count cs ats false true f = fit-passes groupsOf11 cs ats ∙ whole cs (eqb-true (length cs) 11 f)
+by-count cs ats false false f = refl
+
+-- a text fits exactly when it is well-formed and its code points are a codice fiscale
+pub codice-fits : (s : List ℕ) (ps : List Piece) → contentOf s ≡ content ps → isFit (codiceFault s) ≡ isCodice (codes ps)
+unfolding codiceFault codiceOf isCodice
+codice-fits s ps e =
+    let n : length (codes ps) ≡ length ps = simp length-map in
+    rw (e, ← n) (by-count (codes ps) (places ps) (eqb (length (codes ps)) 16) (eqb (length (codes ps)) 11) refl)
+
+pub codice-refused : (s : List ℕ) → contentOf s ≡ refused → codiceFault s ≡ Length
+unfolding codiceFault codiceOf
+codice-refused s e = rw e
+
+-- ---- integer texts
+
+one-step : (c : ℕ) (d w g : Bool) → isDigit c ≡ d → isWhite c ≡ w → isSign c ≡ g → integerText (c ∷ []) ≡ d
+unfolding integerText past trimEnd unsigned someDigits isEmpty all pick
+one-step c true w g e f h = rw (digit-dark c e) (rw (digit-dark c e) (rw (digit-unsigned c e) (rw e)))
+one-step c false true g e f h = rw f
+one-step c false false true e f h = rw f (rw f (rw h))
+one-step c false false false e f h = rw f (rw f (rw h (rw e)))
+
+-- one point is an integer text exactly when it is a digit
+pub one-integer : (c : ℕ) → integerText (c ∷ []) ≡ isDigit c
+one-integer c = one-step c (isDigit c) (isWhite c) (isSign c) refl refl refl
+
+past-all : (p : ℕ → Bool) (l : List ℕ) → all p l ≡ true → past p l ≡ []
+unfolding all past pick
+past-all p [] e = refl
+past-all p (c ∷ l) e = let q = and-true (p c) (all p l) e in rw (q .0) (past-all p l (q .1))
+
+-- digits alone are an integer text
+pub digits-integer : (l : List ℕ) → someDigits l ≡ true → integerText l ≡ true
+unfolding past unsigned someDigits isEmpty all pick
+digits-integer [] e = false-true e
+digits-integer (c ∷ l) e =
+    let q = and-true (isDigit c) (all isDigit l) e in
+    integer-read (c ∷ l)
+    ∙ rw (digit-dark c (q .0)) (rw (digit-unsigned c (q .0)) (some-first c l (q .0) ∙ ap (λ (m : List ℕ). isEmpty (past isWhite m)) (past-all isDigit l (q .1))))

@@ -1,0 +1,71 @@
+-- Rules 45 and 46: 16 code points in groups, or 11 of an integer text.
+use mathlib.Core.Bool.{Bool, true}
+use mathlib.Core.List.{List, [], _∷_, map}
+use Prim.Native.Nat.{ℕ, suc, _-_}
+use lib.Dec.{eqb}
+use lib.ListN.{length, getD, take, drop}
+use Rattle.ascii.specs.Pick.{pick}
+use Rattle.ascii.specs.Class.{isDigit, isLetter, all}
+use Rattle.text.specs.Content.{Piece, Content, refused, content, contentOf}
+use Rattle.text.specs.Neat.{codes}
+use Rattle.forms.specs.declared.form.Fault.{Fault}
+use Rattle.forms.specs.declared.form.Fault.the-variants.{Fits, Length, At}
+use Rattle.codice.specs.Integer.{integerText}
+
+-- a group: the points from a first to a last, counted from 0, and the test that they must pass
+pub record Group : Type 0 where
+  pub first : ℕ
+  pub last : ℕ
+  pub test : List ℕ → Bool
+
+abbrev pub group : ℕ → ℕ → (List ℕ → Bool) → Group
+group first last test = record { first = first; last = last; test = test }
+
+-- the points of a group
+abbrev pub part : Group → List ℕ → List ℕ
+part g cs = take (suc (g .last) - g .first) (drop (g .first) cs)
+
+abbrev pub letters : List ℕ → Bool
+letters cs = all isLetter cs
+
+abbrev pub digits : List ℕ → Bool
+digits cs = all isDigit cs
+
+abbrev pub anything : List ℕ → Bool
+anything cs = true
+
+-- the groups of 16 points
+abbrev pub groupsOf16 : List Group
+groupsOf16 =
+    group 0 5 letters
+    ∷ group 6 7 integerText
+    ∷ group 8 8 letters
+    ∷ group 9 10 integerText
+    ∷ group 11 13 anything
+    ∷ group 14 14 digits
+    ∷ group 15 15 letters
+    ∷ []
+
+-- the one group of 11
+abbrev pub groupsOf11 : List Group
+groupsOf11 = group 0 10 integerText ∷ []
+
+-- the places of the points' first bytes
+abbrev pub places : List Piece → List ℕ
+places ps = map (λ (p : Piece). p .at) ps
+
+-- where the first group that fails begins; cs are the points, and ats their places
+unfoldable pub failing : List Group → List ℕ → List ℕ → Fault
+failing [] cs ats = Fits
+failing (g ∷ gs) cs ats = pick (g .test (part g cs)) (failing gs cs ats) (At (getD ats (g .first) 0))
+
+unfoldable pub codiceOf : Content → Fault
+codiceOf refused = Length
+codiceOf (content ps) =
+    pick (eqb (length ps) 16) (failing groupsOf16 (codes ps) (places ps))
+    (pick (eqb (length ps) 11) (failing groupsOf11 (codes ps) (places ps))
+    Length)
+
+-- what is wrong with a text: how many code points it has, or the place of the first group that fails
+unfoldable pub codiceFault : List ℕ → Fault
+codiceFault s = codiceOf (contentOf s)

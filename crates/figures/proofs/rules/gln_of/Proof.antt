@@ -1,0 +1,42 @@
+-- `figures::rules::gln_of` meets its contract. Assumes nothing.
+use Prim.Native.Nat.{_%_}
+use mathlib.Core.Path.{ap}
+use native.Mathlib.Omega.{arith}
+use lib.Dec.{eqb}
+use borrow.Author.Needs.{needs}
+use Rattle.forms.proofs.OfDigits.{digits-fit}
+use Rattle.figures.specs.Rules.{gln}
+use Rattle.figures.proofs.Judging.{fitted, unfitted, met}
+use Rattle.figures.proofs.rules.gln_of.Statement.{statement}
+use Rattle.figures.proofs.rules.gln_of.Tie as tie
+
+all-digits-requires : tie.Need-all-digits-requires
+all-digits-requires c κs = search needs
+
+is-fit-requires : tie.Need-is-fit-requires
+is-fit-requires c κs = search needs
+
+alternating-requires : tie.Need-alternating-requires
+alternating-requires c κs =
+    let s = c .before .before .before .before .args .s .now in
+    let d = digits-fit 1 1024 s (fitted _ (c .before .is-fit .ensures) (c .before .before .all-digits .ensures) (c .if1 .taken)) in
+    (d .digit, (d .most, (omega arith, omega arith)))
+
+decided-requires : tie.Need-decided-requires
+decided-requires c κs = search needs
+
+returns : tie.Need-returns
+unfolding gln
+returns c =
+    let b = c .before .before .before in
+    met _ (fitted _ (b .is-fit .ensures) (b .before .all-digits .ensures) (c .before .before .if1 .taken))
+    (ap (λ t. eqb (t % 10) 0) (c .before .alternating .ensures)) (c .decided .ensures)
+
+returns-2 : tie.Need-returns-2
+unfolding gln
+returns-2 c = unfitted _ (c .before .is-fit .ensures) (c .before .before .all-digits .ensures) _ (c .if1 .left)
+
+pub gln-of-spec : {M : Type 1} → statement M
+gln-of-spec =
+    tie.close
+    (tie.spec all-digits-requires is-fit-requires alternating-requires decided-requires returns returns-2)

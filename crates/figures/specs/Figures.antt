@@ -1,0 +1,57 @@
+-- A check figure is data: weights, a modulus and what the weighted total leaves by it.
+use mathlib.Core.Bool.{Bool, true, false}
+use mathlib.Core.List.{List, [], _∷_}
+use Prim.Native.Nat.{ℕ, _+_, _*_, _/_, _%_}
+use lib.Dec.{eqb}
+use lib.ListN.{length, getD}
+use Rattle.figures.specs.Total.{total}
+
+pub record Figure : Type 0 where
+  -- whether a product counts by the sum of its digits
+  pub fold : Bool
+  -- from the right, over and over
+  pub weights : List ℕ
+  pub modulus : ℕ
+  pub left : ℕ
+
+abbrev pub figure : Bool → List ℕ → ℕ → ℕ → Figure
+figure fold weights modulus left = record { fold = fold; weights = weights; modulus = modulus; left = left }
+
+-- the weight of a digit with k digits to its right
+abbrev pub weightAt : List ℕ → ℕ → ℕ
+weightAt ws k = getD ws (k % length ws) 0
+
+-- a product as it counts
+abbrev pub counted : Bool → ℕ → ℕ
+counted true n = n / 10 + n % 10
+counted false n = n
+
+-- what the digit d adds with k digits to its right
+abbrev pub adds : Bool → List ℕ → ℕ → ℕ → ℕ
+adds fold ws k d = counted fold (weightAt ws k * d)
+
+abbrev pub totalBy : Figure → List ℕ → ℕ
+totalBy f s = total (adds (f .fold) (f .weights)) s
+
+abbrev pub right : Figure → List ℕ → Bool
+right f s = eqb (totalBy f s % f .modulus) (f .left)
+
+-- 40: weights 3, 1, 3, 1 .. leftwards from the digit before the check, the check itself 1; a multiple of 10
+abbrev pub figure40 : Figure
+figure40 = figure false (1 ∷ 3 ∷ []) 10 0
+
+-- 41: check 1, then leftwards 2, 3, 4, 5, 6, 7, 2, 3; a multiple of 11
+abbrev pub figure41 : Figure
+figure41 = figure false (1 ∷ 2 ∷ 3 ∷ 4 ∷ 5 ∷ 6 ∷ 7 ∷ 2 ∷ 3 ∷ []) 11 0
+
+-- 43: of the numbers that it accepts, the first eight and the last two add up to a multiple of 97
+abbrev pub figure43 : Figure
+figure43 = figure false (1 ∷ 10 ∷ 1 ∷ 10 ∷ 100 ∷ 1000 ∷ 10000 ∷ 100000 ∷ 1000000 ∷ 10000000 ∷ []) 97 0
+
+-- 47, 49: every second digit doubled, with the digits of the double added; a multiple of 10 (Luhn, ISO/IEC 7812-1)
+abbrev pub luhn : Figure
+luhn = figure true (1 ∷ 2 ∷ []) 10 0
+
+-- 50, before the first digit is reduced: weights 10, 1, 3 .. 19 from the left; the total leaves 10 by 89
+abbrev pub figure50 : Figure
+figure50 = figure false (19 ∷ 17 ∷ 15 ∷ 13 ∷ 11 ∷ 9 ∷ 7 ∷ 5 ∷ 3 ∷ 1 ∷ 10 ∷ []) 89 10

@@ -1,0 +1,98 @@
+// The rules with a check figure, by their names in the Rust.
+ghost use mathlib.Core.Path.{_≡_};
+ghost use Rattle.figures.specs.Rules.{gln, mod11, mod97, partitaIva, seOrgnr, abn};
+use super::finding::Finding;
+use super::finding::decided;
+use super::finding::is_fit;
+use super::total::abn_total;
+use super::total::alternating;
+use super::total::weighted;
+use forms::all_digits;
+use forms::italian;
+use forms::n_digits;
+
+// The weights of an organisation number, from the right.
+const MOD11: [u32; 9] = [1, 2, 3, 4, 5, 6, 7, 2, 3];
+
+// The powers of ten, from the right.
+const POWERS: [u32; 8] = [1, 10, 100, 1000, 10000, 100000, 1000000, 10000000];
+
+// Rule 40 for any number of digits.
+fn gln_of(s: &[u8]) -> Finding
+    ensures { λ r. ⌜ r ≡ gln (now (s .entry)) ⌝ }
+{
+    let fault = all_digits(s);
+    if is_fit(fault) {
+        return decided(alternating(s, 1, 3, false) % 10 == 0);
+    }
+    Finding::Unfit(fault)
+}
+
+// A GLN has 13 digits. These go by themselves, so that both loops have a length that the compiler knows.
+pub fn gln(s: &[u8]) -> Finding
+    ensures { λ r. ⌜ r ≡ gln (now (s .entry)) ⌝ }
+{
+    if s.len() == 13 {
+        return gln_of(&s[0..13]);
+    }
+    gln_of(s)
+}
+
+pub fn mod11(s: &[u8]) -> Finding
+    ensures { λ r. ⌜ r ≡ mod11 (now (s .entry)) ⌝ }
+{
+    let fault = n_digits(s, 9);
+    if is_fit(fault) {
+        let weights = MOD11;
+        let sum = weighted(s, &weights);
+        if sum == 0 {
+            return Finding::Zero;
+        }
+        return decided(sum % 11 == 0);
+    }
+    Finding::Unfit(fault)
+}
+
+pub fn mod97_0208(s: &[u8]) -> Finding
+    ensures { λ r. ⌜ r ≡ mod97 (now (s .entry)) ⌝ }
+{
+    let fault = n_digits(s, 10);
+    if is_fit(fault) {
+        let powers = POWERS;
+        let body = weighted(&s[0..8], &powers);
+        let check = weighted(&s[8..10], &powers);
+        return decided(check == 97 - body % 97);
+    }
+    Finding::Unfit(fault)
+}
+
+// The text with IT or it in front.
+pub fn partita_iva(s: &[u8]) -> Finding
+    ensures { λ r. ⌜ r ≡ partitaIva (now (s .entry)) ⌝ }
+{
+    let fault = italian(s);
+    if is_fit(fault) {
+        return decided(alternating(&s[2..13], 1, 2, true) % 10 == 0);
+    }
+    Finding::Unfit(fault)
+}
+
+pub fn se_orgnr(s: &[u8]) -> Finding
+    ensures { λ r. ⌜ r ≡ seOrgnr (now (s .entry)) ⌝ }
+{
+    let fault = n_digits(s, 10);
+    if is_fit(fault) {
+        return decided(alternating(s, 1, 2, true) % 10 == 0);
+    }
+    Finding::Unfit(fault)
+}
+
+pub fn abn(s: &[u8]) -> Finding
+    ensures { λ r. ⌜ r ≡ abn (now (s .entry)) ⌝ }
+{
+    let fault = n_digits(s, 11);
+    if is_fit(fault) {
+        return decided(abn_total(s) % 89 == 0);
+    }
+    Finding::Unfit(fault)
+}
