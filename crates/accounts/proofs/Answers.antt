@@ -4,6 +4,7 @@ use mathlib.Core.Bool.{true, false}
 use mathlib.Core.List.{List}
 use Prim.Native.Nat.{ℕ}
 use borrow.Author.Tests.{eq-eqb, ne-eqb}
+use lib.ListN.{length}
 use Rattle.ascii.specs.Pick.{pick}
 use Rattle.answer.specs.declared.reason.Reason.{Reason}
 use Rattle.answer.specs.declared.reason.Reason.the-variants.{NoReason, Form, Check}
@@ -12,6 +13,7 @@ use Rattle.answer.specs.Answers.{none, judged}
 use Rattle.answer.proofs.Laws.{first-none, first-given}
 use Rattle.text.specs.declared.area.Text.{Text}
 use Rattle.text.specs.Answer.{strippedText, textOf}
+use Rattle.text.proofs.Laws.{strip-area}
 use Rattle.forms.specs.declared.form.Fault.{Fault}
 use Rattle.forms.specs.Form.{Form as FormOf, faultOf, isFit, fits}
 use Rattle.forms.specs.Table.{iban, creditor}
@@ -46,6 +48,10 @@ module _ (s : List ℕ) where
   creditor-fit h = rw h
 
 -- ---- a content
+
+-- its area is whole
+pub area-whole : (s : List ℕ) (t : Text) → t ≡ strippedText s → 1024 ≡ length (t .bytes)
+area-whole s t e = rw e (sym (strip-area s))
 
 module _ (rule : List ℕ → Reason) (s : List ℕ) (t : Text) (e : t ≡ strippedText s) where
   -- a content that can't be read

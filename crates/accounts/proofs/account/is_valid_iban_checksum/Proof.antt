@@ -3,15 +3,18 @@ use mathlib.Core.Path.{_∙_, ap}
 use borrow.Author.Needs.{needs}
 use Rattle.answer.proofs.Laws.{is-none, is-given}
 use Rattle.accounts.specs.Rules.{ibanReason}
-use Rattle.accounts.proofs.Answers.{unreadable, readable}
+use Rattle.accounts.proofs.Answers.{area-whole, unreadable, readable}
 use Rattle.accounts.proofs.account.is_valid_iban_checksum.Statement.{statement}
 use Rattle.accounts.proofs.account.is_valid_iban_checksum.Tie as tie
 
-strip-requires : tie.Need-strip-requires
-strip-requires c κs = search needs
+strip-into-requires : tie.Need-strip-into-requires
+strip-into-requires c κs = search needs
 
 number-requires : tie.Need-number-requires
 number-requires c κs = search needs
+
+slice-aggregate-first-bytes : tie.Need-slice-aggregate-first-bytes
+slice-aggregate-first-bytes c = area-whole _ _ (c .before .before .before .strip-into .ensures)
 
 first-bytes-requires : tie.Need-first-bytes-requires
 first-bytes-requires c κs = search needs
@@ -25,9 +28,9 @@ judged-requires c κs = search needs
 returns : tie.Need-returns
 returns c =
     let d = c .before .before in
-    let e = d .before .before .before .before in
+    let e = d .before .before in
     c .judged .ensures
-    ∙ readable ibanReason _ _ (e .before .before .strip .ensures) _ (is-none _ (e .before .number .ensures) (e .if1 .taken))
+    ∙ readable ibanReason _ _ (e .before .before .strip-into .ensures) _ (is-none _ (e .before .number .ensures) (e .if1 .taken))
     (c .before .iban-text .ensures ∙ ap ibanReason (d .first-bytes .ensures))
 
 judged-requires-2 : tie.Need-judged-requires-2
@@ -37,14 +40,15 @@ returns-2 : tie.Need-returns-2
 returns-2 c =
     let d = c .before .before in
     c .judged2 .ensures
-    ∙ unreadable ibanReason _ _ (d .before .strip .ensures) (is-given _ (d .number .ensures) (c .before .if1 .left))
+    ∙ unreadable ibanReason _ _ (d .before .strip-into .ensures) (is-given _ (d .number .ensures) (c .before .if1 .left))
 
 pub is-valid-iban-checksum-spec : {M : Type 1} → statement M
 is-valid-iban-checksum-spec =
     tie.close
     (tie.spec
-    strip-requires
+    strip-into-requires
     number-requires
+    slice-aggregate-first-bytes
     first-bytes-requires
     iban-text-requires
     judged-requires
