@@ -1,6 +1,7 @@
 // The classes of a byte or a code point: ASCII digits and letters, and lists of them.
 ghost use mathlib.Core.Path.{_≡_};
 ghost use Rattle.ascii.specs.Class.{isDigit, isLetter, isPlain, among};
+ghost use Rattle.ascii.specs.Written.{sameBytes};
 
 // A byte as a code point.
 pub fn wide(b: u8) -> u32
@@ -52,4 +53,21 @@ pub fn among(c: u32, list: &[u32]) -> bool
         i += 1;
     }
     false
+}
+
+// Whether two texts are the same, byte for byte.
+pub fn same_bytes(a: &[u8], b: &[u8]) -> bool
+    ensures { λ r. ⌜ r ≡ sameBytes (now (a .entry)) (now (b .entry)) ⌝ }
+{
+    if a.len() != b.len() {
+        return false;
+    }
+    let mut i: usize = 0;
+    while i < a.len() {
+        if a[i] != b[i] {
+            return false;
+        }
+        i += 1;
+    }
+    true
 }
