@@ -1,8 +1,7 @@
 -- Which rule reads a field: by its scheme and its term.
-use mathlib.Core.Bool.{Bool, true, false, not, _&&_}
+use mathlib.Core.Bool.{not, _&&_}
 use mathlib.Core.List.{List, [], _∷_}
 use Prim.Native.Nat.{ℕ}
-use lib.Dec.{eqb}
 use Rattle.ascii.specs.Pick.{pick}
 use Rattle.ascii.specs.Class.{among}
 use Rattle.ascii.specs.Written.{bytes}
