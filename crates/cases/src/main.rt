@@ -4,6 +4,7 @@ ghost use lib.ListN.{length};
 
 mod commands;
 mod escape;
+mod split;
 
 use libc::STDIN_FILENO;
 use libc::STDOUT_FILENO;
