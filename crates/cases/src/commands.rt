@@ -5,6 +5,8 @@ use super::split::behind;
 use super::split::decimal;
 use super::split::word_end;
 use answer::Answer;
+use figures::Finding;
+use forms::Fault;
 use libc::STDOUT_FILENO;
 use text::Step;
 use text::Text;
@@ -85,6 +87,43 @@ fn show_check(field: &[u8]) {
     show_answer(rules::check(&field[0..scheme_end], term, &field[content..n]));
 }
 
+fn show_fault(fault: Fault) {
+    match fault {
+        Fault::Fits => {}
+        Fault::Length => {
+            io::write_all(STDOUT_FILENO, b" length");
+        }
+        Fault::At(place) => {
+            io::write_all(STDOUT_FILENO, b" at");
+            number(place as u64);
+        }
+    }
+}
+
+fn figure(rule: u32, text: &[u8]) -> Finding {
+    match rule {
+        40 => figures::gln(text),
+        41 => figures::mod11(text),
+        43 => figures::mod97_0208(text),
+        47 => figures::partita_iva(text),
+        49 => figures::se_orgnr(text),
+        _ => figures::abn(text),
+    }
+}
+
+// The number of a rule with a check figure, and a text: the reason, and what is wrong with the form.
+fn show_figure(field: &[u8]) {
+    let rule_end = word_end(field, 0);
+    let start = behind(field, rule_end);
+    let n = field.len();
+    let found = figure(decimal(&field[0..rule_end]), &field[start..n]);
+    let reason = figures::reason(found);
+    number(reason.number() as u64);
+    if let Finding::Unfit(fault) = found {
+        show_fault(fault);
+    }
+}
+
 // Which function a command names.
 fn call(command: u8, content: &[u8]) {
     if command == b'n' {
@@ -101,6 +140,18 @@ fn call(command: u8, content: &[u8]) {
     }
     if command == b'c' {
         show_check(content);
+        return;
+    }
+    if command == b'f' {
+        show_figure(content);
+        return;
+    }
+    if command == b'i' {
+        show_answer(accounts::is_valid_iban_checksum(content));
+        return;
+    }
+    if command == b'r' {
+        show_answer(accounts::is_valid_creditor_identifier(content));
         return;
     }
     io::write_all(STDOUT_FILENO, b" unknown");
