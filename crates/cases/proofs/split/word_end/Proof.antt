@@ -1,26 +1,23 @@
--- `cases::commands::behind_space` stays within the line.
+-- `cases::split::word_end` stays within the line.
 use borrow.Author.Needs.{needs}
 use Prim.Native.Nat.{_-_, _≤_}
 use lib.ListN.{length}
-use Rattle.cases.proofs.commands.behind_space.Statement.{statement}
-use Rattle.cases.proofs.commands.behind_space.Tie as tie
-use Rattle.cases.proofs.commands.behind_space.Reads as reads
-use Rattle.cases.proofs.commands.behind_space.Lts as lts
+use Rattle.cases.proofs.split.word_end.Statement.{statement}
+use Rattle.cases.proofs.split.word_end.Tie as tie
+use Rattle.cases.proofs.split.word_end.Reads as reads
+use Rattle.cases.proofs.split.word_end.Lts as lts
 
 abbrev Inv-loop : tie.InvT-loop
-Inv-loop line i₀ i = i ≤ length line
+Inv-loop s at i₀ i = (at ≤ i) × (i ≤ length s)
 
 abbrev μ-loop : tie.MeasureT-loop
-μ-loop line i₀ i = length line - i
+μ-loop s at i₀ i = length s - i
 
 loop-holds : tie.Need-loop-holds Inv-loop μ-loop
 loop-holds c = search needs
 
 shared-slice-read-if1 : tie.Need-shared-slice-read-if1 Inv-loop μ-loop
 shared-slice-read-if1 c = search needs
-
-add-result : tie.Need-add-result Inv-loop μ-loop
-add-result c = search needs
 
 returns : tie.Need-returns Inv-loop μ-loop
 returns c = search needs
@@ -37,15 +34,14 @@ loop-again c = search needs
 returns-2 : tie.Need-returns-2 Inv-loop μ-loop
 returns-2 c = search needs
 
-pub behind-space-spec : {M : Type 1} → statement M
-behind-space-spec =
+pub word-end-spec : {M : Type 1} → statement M
+word-end-spec =
     tie.close
     (tie.spec
     Inv-loop
     μ-loop
     loop-holds
     shared-slice-read-if1
-    add-result
     returns
     add-i
     loop-less
