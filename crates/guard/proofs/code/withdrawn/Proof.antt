@@ -1,4 +1,4 @@
--- `guard::code::withdrawn` meets its contract.
+-- `guard::code::withdrawn` meets its contract: the table is that of the definition, whole, and the rows that are left answer for all. Assumes nothing.
 use mathlib.Core.Path.{_≡_, refl, sym, ap, _∙_}
 use Prim.Native.Nat.{_-_, _≤_}
 use native.Mathlib.Omega.{arith}
@@ -10,14 +10,14 @@ use Rattle.guard.proofs.code.withdrawn.Statement.{statement}
 use Rattle.guard.proofs.code.withdrawn.Tie as tie
 
 abbrev Inv-loop : tie.InvT-loop
-Inv-loop code table i₀ i = (i ≤ 12) × (withdrawnOf code ≡ withdrawnIn (drop i rows) code)
+Inv-loop code table i₀ i = (table ≡ rows) × (i ≤ 12) × (withdrawnOf code ≡ withdrawnIn (drop i rows) code)
 
 abbrev μ-loop : tie.MeasureT-loop
 μ-loop code table i₀ i = 12 - i
 
 loop-holds : tie.Need-loop-holds Inv-loop μ-loop
 unfolding withdrawnOf
-loop-holds c = (omega arith, refl)
+loop-holds c = (refl, omega arith, refl)
 
 mul-row : tie.Need-mul-row Inv-loop μ-loop
 mul-row c = omega arith
@@ -62,7 +62,7 @@ returns c =
     let e = d .before .before .before .before in
     c .successor .ensures
     ∙ ap successorOf (row-word (e .before .loop .i) (e .loop-test .taken))
-    ∙ sym (e .before .loop .inv .1 ∙ row-hit (e .before .loop .i) _ (e .loop-test .taken) (sym (d .same-bytes .ensures) ∙ c .before .before .before .if1 .taken))
+    ∙ sym (e .before .loop .inv .2 ∙ row-hit (e .before .loop .i) _ (e .loop-test .taken) (sym (d .same-bytes .ensures) ∙ c .before .before .before .if1 .taken))
 
 add-i : tie.Need-add-i Inv-loop μ-loop
 add-i c = omega arith
@@ -74,15 +74,16 @@ loop-again : tie.Need-loop-again Inv-loop μ-loop
 loop-again c =
     let d = c .before in
     let e = d .before .before .before .before in (
+      refl,
       omega arith,
-      e .before .loop .inv .1
+      e .before .loop .inv .2
           ∙ row-miss (e .before .loop .i) _ (e .loop-test .taken) (sym (d .same-bytes .ensures) ∙ c .if1 .left),
     )
 
 returns-2 : tie.Need-returns-2 Inv-loop μ-loop
 returns-2 c =
     let d = c .before in
-    sym (d .loop .inv .1 ∙ row-end (d .loop .i) _ (c .loop-test .left))
+    sym (d .loop .inv .2 ∙ row-end (d .loop .i) _ (c .loop-test .left))
 
 pub withdrawn-spec : {M : Type 1} → statement M
 withdrawn-spec =
