@@ -13,25 +13,13 @@ pub fn wide(b: u8) -> u32
 pub fn is_digit(c: u32) -> bool
     ensures { λ r. ⌜ r ≡ isDigit c ⌝ }
 {
-    if c < 48 {
-        return false;
-    }
-    c <= 57
+    (48 <= c) & (c <= 57)
 }
 
 pub fn is_letter(c: u32) -> bool
     ensures { λ r. ⌜ r ≡ isLetter c ⌝ }
 {
-    if c < 65 {
-        return false;
-    }
-    if c <= 90 {
-        return true;
-    }
-    if c < 97 {
-        return false;
-    }
-    c <= 122
+    ((65 <= c) & (c <= 90)) | ((97 <= c) & (c <= 122))
 }
 
 // A letter or a digit.
