@@ -6,7 +6,9 @@ use Rattle.text.specs.declared.area.Text.{Text}
 use Rattle.text.specs.declared.utf8.Step.{Step}
 use Rattle.text.specs.declared.utf8.Step.the-variants.{Point, Refused}
 use Rattle.answer.specs.declared.reason.Reason.{Reason}
-use Rattle.answer.specs.Numbers.{reasonNumber}
+use Rattle.answer.specs.declared.record.Answer.{Answer}
+use Rattle.answer.specs.Numbers.{verdictNumber, severityNumber, reasonNumber}
+use Rattle.partyid.specs.declared.plain.PartyidAnswer.{PartyidAnswer}
 use Rattle.partyid.specs.declared.plain.PartyidPoint.{PartyidPoint}
 use Rattle.partyid.specs.declared.plain.PartyidText.{PartyidText}
 
@@ -23,3 +25,13 @@ plainText r n = record { reason = reasonNumber r; len = n }
 pub record Shown (t : Text) (r : PartyidText) (area : List ℕ) : Type 0 where
   pub numbers : r ≡ plainText (t .reason) (t .len)
   pub bytes : area ≡ t .bytes
+
+-- the four numbers of an answer
+unfoldable pub plainAnswer : Answer → PartyidAnswer
+plainAnswer a =
+    record {
+      verdict = verdictNumber (a .verdict);
+      rule = a .rule;
+      severity = severityNumber (a .severity);
+      reason = reasonNumber (a .reason);
+    }

@@ -1,6 +1,7 @@
 // Answers as plain numbers, laid out as in C.
 ghost use mathlib.Core.Path.{_≡_};
-ghost use Rattle.partyid.specs.Plain.{plainPoint, plainText};
+ghost use Rattle.partyid.specs.Plain.{plainPoint, plainText, plainAnswer};
+use answer::Answer;
 use text::Kept;
 use text::Step;
 
@@ -18,7 +19,16 @@ pub struct PartyidText {
     pub len: usize,
 }
 
-pub fn point(s: Step) -> PartyidPoint
+// The four numbers of an answer.
+#[repr(C)]
+pub struct PartyidAnswer {
+    pub verdict: u32,
+    pub rule: u32,
+    pub severity: u32,
+    pub reason: u32,
+}
+
+pub(crate) fn point(s: Step) -> PartyidPoint
     ensures { λ r. ⌜ r ≡ plainPoint s ⌝ }
 {
     match s {
@@ -27,12 +37,26 @@ pub fn point(s: Step) -> PartyidPoint
     }
 }
 
-pub fn plain(k: Kept) -> PartyidText
+pub(crate) fn plain(k: Kept) -> PartyidText
     ensures { λ r. ⌜ r ≡ plainText (k .reason) (k .len) ⌝ }
 {
     let why = k.reason;
     PartyidText {
         reason: why.number(),
         len: k.len,
+    }
+}
+
+pub(crate) fn answer_numbers(a: Answer) -> PartyidAnswer
+    ensures { λ r. ⌜ r ≡ plainAnswer a ⌝ }
+{
+    let verdict = a.verdict;
+    let severity = a.severity;
+    let reason = a.reason;
+    PartyidAnswer {
+        verdict: verdict.number(),
+        rule: a.rule,
+        severity: severity.number(),
+        reason: reason.number(),
     }
 }
