@@ -22,13 +22,13 @@ wide-requires-2 : tie.Need-wide-requires-2
 wide-requires-2 c κs = search needs
 
 sub-result : tie.Need-sub-result
-sub-result c = omega (arith, head-has (c .before .before .before .before .before .args .line .now) (c .before .before .before .before .before .pre) .tens, c .before .before .wide .ensures)
+sub-result c = let h = head-has (c .before .before .before .before .before .args .line .now) (c .before .before .before .before .before .pre) in omega (arith, h .tens, h .ones, c .before .before .wide .ensures, c .wide2 .ensures)
 
 mul-result : tie.Need-mul-result
-mul-result c = let h = head-has (c .before .before .before .before .before .args .line .now) (c .before .before .before .before .before .pre) in record { fits = omega (arith, h .tens .1, c .before .before .wide .ensures) }
+mul-result c = let h = head-has (c .before .before .before .before .before .args .line .now) (c .before .before .before .before .before .pre) in record { fits = omega (arith, h .tens .1, h .ones .1, c .before .before .wide .ensures, c .wide2 .ensures) }
 
 sub-result-2 : tie.Need-sub-result-2
-sub-result-2 c = omega (arith, head-has (c .before .before .before .before .before .args .line .now) (c .before .before .before .before .before .pre) .ones, c .wide2 .ensures)
+sub-result-2 c = let h = head-has (c .before .before .before .before .before .args .line .now) (c .before .before .before .before .before .pre) in omega (arith, h .tens, h .ones, c .before .before .wide .ensures, c .wide2 .ensures)
 
 add-result : tie.Need-add-result
 add-result c = let h = head-has (c .before .before .before .before .before .args .line .now) (c .before .before .before .before .before .pre) in record { fits = omega (arith, h .tens .1, h .ones .1, c .before .before .wide .ensures, c .wide2 .ensures) }

@@ -30,7 +30,7 @@ number-requires-3 : tie.Need-number-requires-3
 number-requires-3 c κs = search needs
 
 put-field-requires-4 : tie.Need-put-field-requires-4
-put-field-requires-4 c κs = (omega (arith, c .before .before .before .before .put-field3 .ensures .short, c .before .before .before .before .put-field3 .ensures .size, c .before .before .before .before .before .before .before .before .before .put-field2 .ensures .short, c .before .before .before .before .before .before .before .before .before .put-field2 .ensures .size, c .before .before .before .before .before .before .before .before .before .before .before .before .before .put-field .ensures .short, c .before .before .before .before .before .before .before .before .before .before .before .before .before .put-field .ensures .size), omega (arith, c .number3 .ensures, reason-small (c .before .before .before .before .before .before .before .before .before .before .before .before .before .before .before .before .before .args .a .reason)))
+put-field-requires-4 c κs = (omega (arith, c .before .before .before .before .put-field3 .ensures .short, c .before .before .before .before .put-field3 .ensures .size, c .before .before .before .before .before .before .before .before .before .put-field2 .ensures .short, c .before .before .before .before .before .before .before .before .before .put-field2 .ensures .size, c .before .before .before .before .before .before .before .before .before .before .before .before .before .put-field .ensures .short, c .before .before .before .before .before .before .before .before .before .before .before .before .before .put-field .ensures .size), omega (arith, c .number3 .ensures, reason-small (c .before .before .before .before .before .before .before .before .before .before .before .before .before .before .before .before .before .args .a .reason), severity-small (c .before .before .before .before .before .before .before .before .before .before .before .before .before .before .before .before .before .args .a .severity)))
 
 same-length : tie.Need-same-length
 same-length c = search needs
