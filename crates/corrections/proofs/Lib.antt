@@ -1,0 +1,6 @@
+-- Laws of completing and of correction lists.
+mod Schemes
+mod Outcomes
+pub mod Totals
+pub mod Checks
+pub mod Completes

@@ -1,0 +1,6 @@
+-- Completing a body, and the list of all corrections of a refused number.
+pub mod Five
+pub mod Outcome
+pub mod Completing
+pub mod Totals
+pub mod Meaning

@@ -1,0 +1,11 @@
+// Completing a body by its check figure, and the list of all corrections of a refused number.
+mod completing;
+mod done;
+mod five;
+mod total;
+
+pub use completing::complete;
+pub use done::Done;
+pub use five::Five;
+pub use five::Known;
+pub use five::five_of;
