@@ -26,7 +26,8 @@ use Rattle.figures.proofs.Links.{join}
 use Rattle.corrections.specs.declared.five.Five.{Five}
 use Rattle.corrections.specs.declared.five.Five.the-variants.{Gln, Norway, Belgium, Sweden, Australia}
 use Rattle.corrections.specs.Completing.{bodyForm, figureFor, noFigure}
-use Rattle.corrections.specs.Totals.{mostOf, share, isPair, bodyTotal, checkOf, whyNone, noneBy}
+use Rattle.corrections.specs.Listing.{mostOf}
+use Rattle.corrections.specs.Totals.{share, isPair, bodyTotal, checkOf, whyNone, noneBy}
 
 -- a body of the right form is digits, and its number is not too long
 pub record Body (k : Five) (body : List ℕ) : Type 0 where
@@ -56,7 +57,7 @@ with-zero : (f : ℕ → ℕ → ℕ) (u : List ℕ) → f 0 0 ≡ 0 → total f
 with-zero f u z = join f (λ j d. f (j + 1) d) f u (oneDigit 0) (λ j d l. refl) (λ j d l. refl) ∙ (let e : total f (oneDigit 0) ≡ 0 = omega arith in omega arith)
 
 -- nothing is left out at the end
-with-none : (f : ℕ → ℕ → ℕ) (u : List ℕ) → total f u ≡ total (λ j d. f (j + 0) d) u
+pub with-none : (f : ℕ → ℕ → ℕ) (u : List ℕ) → total f u ≡ total (λ j d. f (j + 0) d) u
 with-none f u = same-total f (λ j d. f (j + 0) d) u (λ j d l. ap (λ i. f i d) (sym (add-zero j)))
 
 module _ (body : List ℕ) where

@@ -4,3 +4,8 @@ mod Outcomes
 pub mod Totals
 pub mod Checks
 pub mod Completes
+pub mod Areas
+pub mod Members
+pub mod Exact
+pub mod Fixes
+mod Rows

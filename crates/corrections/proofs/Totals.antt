@@ -12,7 +12,8 @@ use Rattle.ascii.proofs.Tests.{below, below-at}
 use Rattle.figures.specs.Figures.{counted}
 use Rattle.corrections.specs.declared.five.Five.{Five}
 use Rattle.corrections.specs.declared.five.Five.the-variants.{Gln, Norway, Belgium, Sweden, Australia}
-use Rattle.corrections.specs.Totals.{mostOf, weight, folds, share, Weights}
+use Rattle.corrections.specs.Listing.{leastOf, mostOf}
+use Rattle.corrections.specs.Totals.{weight, folds, share, Weights}
 
 pub most-20 : (k : Five) → mostOf k ≤ 20
 most-20 Gln = omega arith
@@ -20,6 +21,13 @@ most-20 Norway = omega arith
 most-20 Belgium = omega arith
 most-20 Sweden = omega arith
 most-20 Australia = omega arith
+
+pub least-1 : (k : Five) → 1 ≤ leastOf k
+least-1 Gln = omega arith
+least-1 Norway = omega arith
+least-1 Belgium = omega arith
+least-1 Sweden = omega arith
+least-1 Australia = omega arith
 
 -- a table by the test of its entries, which is computed
 abbrev pub agrees : Five → List ℕ → Bool
@@ -59,3 +67,7 @@ unfolding share
 share-small k j d h l =
     let p : weight k j * d ≤ 1000000000 * 9 = mul-le-mul {n₁ = weight k j} {m₁ = d} {n₂ = 1000000000} {m₂ = 9} (weight-small k j h) l in
     omega (arith, counted-small (folds k) (weight k j * d))
+
+pub share-zero : (k : Five) (j : ℕ) → share k j 0 ≡ 0
+unfolding share
+share-zero k j = omega (arith, counted-small (folds k) (weight k j * 0))

@@ -2,5 +2,8 @@
 pub mod Five
 pub mod Outcome
 pub mod Completing
+pub mod Entries
+pub mod Corrections
+pub mod Listing
 pub mod Totals
 pub mod Meaning

@@ -1,12 +1,13 @@
 -- What completing and listing mean, said without them.
 use mathlib.Core.Path.{_≡_}
 use mathlib.Core.Bool.{true, false}
-use mathlib.Core.Logic.{_↔_}
-use mathlib.Core.List.{List}
-use Prim.Native.Nat.{ℕ, _≤_}
-use lib.ListN.{length}
+use mathlib.Core.Logic.{_↔_, _⊎_}
+use mathlib.Core.List.{List, [], _∷_, List·Memᴰ}
+use Prim.Native.Nat.{ℕ, _+_, _-_, _*_, _≤_, _<_}
+use lib.ListN.{length, getD}
 use Rattle.answer.specs.declared.reason.Reason.the-variants.{NoReason}
 use Rattle.figures.specs.Total.{number}
+use Rattle.rules.specs.declared.rule.Rule.{Rule}
 use Rattle.rules.specs.Finding.{accepts}
 use Rattle.corrections.specs.declared.five.Five.{Five}
 use Rattle.corrections.specs.declared.five.Five.the-variants.{Gln, Norway, Belgium, Sweden, Australia}
@@ -32,3 +33,38 @@ pub record Completed (k : Five) (body : List ℕ) : Type 0 where
 abbrev pub NoneCompletes : Five → List ℕ → Type 0
 NoneCompletes k body =
     (noFigure k body ≡ NoReason → ⊥) ↔ ((y : List ℕ) → length y ≡ length (figureFor k body) → accepts (ruleOf k) (numberOf k body y) ≡ false)
+
+-- ---- listing
+
+-- t differs from s at exactly one place
+pub record OneDigit (s t : List ℕ) : Type 0 where
+  pub place : ℕ
+  pub within : place < length s
+  pub other : getD t place 0 ≡ getD s place 0 → ⊥
+  pub rest : (j : ℕ) → (j ≡ place → ⊥) → getD t j 0 ≡ getD s j 0
+
+-- t is s with two unequal neighbours exchanged
+pub record Neighbours (s t : List ℕ) : Type 0 where
+  pub place : ℕ
+  pub within : place + 1 < length s
+  pub unequal : getD s place 0 ≡ getD s (place + 1) 0 → ⊥
+  pub left : getD t place 0 ≡ getD s (place + 1) 0
+  pub right : getD t (place + 1) 0 ≡ getD s place 0
+  pub rest : (j : ℕ) → (j ≡ place → ⊥) → (j ≡ place + 1 → ⊥) → getD t j 0 ≡ getD s j 0
+
+-- t is a correction of s: as long, accepted, and one such mistake away
+pub record Correction (r : Rule) (s t : List ℕ) : Type 0 where
+  pub long : length t ≡ length s
+  pub accepted : accepts r t ≡ true
+  pub near : OneDigit s t ⊎ Neighbours s t
+
+-- no entry stands twice
+abbrev pub Once : List (List ℕ) → Type 0
+Once [] = Unit
+Once (t ∷ ts) = (List·Memᴰ t ts → ⊥) × Once ts
+
+-- a list of every correction of s and nothing else, each once, at most 2n - 1
+pub record Whole (r : Rule) (s : List ℕ) (entries : List (List ℕ)) : Type 0 where
+  pub every : (t : List ℕ) → List·Memᴰ t entries ↔ Correction r s t
+  pub once : Once entries
+  pub few : length entries ≤ 2 * length s - 1

@@ -1,25 +1,19 @@
 -- What the code finds its answers from: one total of a number's digits. No rule cites this; that it says what the rules say is proved.
 use mathlib.Core.Path.{_≡_}
-use mathlib.Core.Bool.{Bool, true, false}
+use mathlib.Core.Bool.{Bool, true, false, not, _&&_}
 use mathlib.Core.List.{List}
-use Prim.Native.Nat.{ℕ, _+_, _-_, _*_, _%_, _^_, _<_}
+use Prim.Native.Nat.{ℕ, _+_, _-_, _*_, _/_, _%_, _^_, _<_}
 use lib.Dec.{eqb}
 use lib.ListN.{length, getD}
 use Rattle.ascii.specs.Pick.{pick}
 use Rattle.answer.specs.declared.reason.Reason.{Reason}
 use Rattle.answer.specs.declared.reason.Reason.the-variants.{NoReason, Zero, NoFigure}
+use Rattle.forms.specs.Form.{fits}
 use Rattle.figures.specs.Total.{total}
 use Rattle.figures.specs.Figures.{weightAt, counted, figure40, figure41, luhn, figure50}
 use Rattle.corrections.specs.declared.five.Five.{Five}
 use Rattle.corrections.specs.declared.five.Five.the-variants.{Gln, Norway, Belgium, Sweden, Australia}
-
--- how many digits a number has at most
-abbrev pub mostOf : Five → ℕ
-mostOf Gln = 20
-mostOf Norway = 9
-mostOf Belgium = 10
-mostOf Sweden = 10
-mostOf Australia = 11
+use Rattle.corrections.specs.Listing.{mostOf, numberForm}
 
 -- the weight of a digit with j digits to its right; for 0208 the total is the number itself
 abbrev pub weight : Five → ℕ → ℕ
@@ -44,6 +38,21 @@ share k j d = counted (folds k) (weight k j * d)
 pub record Weights (k : Five) (table : List ℕ) : Type 0 where
   pub long : length table ≡ 20
   pub at : (j : ℕ) → j < mostOf k → getD table j 0 ≡ weight k j
+
+-- ---- listing
+
+-- whether the rule accepts a number of the right form by its total
+abbrev pub passes : Five → ℕ → Bool
+passes Gln t = eqb (t % 10) 0
+passes Norway t = not (eqb t 0) && eqb (t % 11) 0
+passes Belgium t = eqb (t % 100) (97 - t / 100 % 97)
+passes Sweden t = eqb (t % 10) 0
+passes Australia t = eqb (t % 89) 10
+
+-- a number of the right form, and its total
+pub record Summed (k : Five) (s : List ℕ) (sum : ℕ) : Type 0 where
+  pub formed : fits (numberForm k) s ≡ true
+  pub sum-is : sum ≡ total (share k) s
 
 -- ---- completing
 

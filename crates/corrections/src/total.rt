@@ -5,7 +5,8 @@ ghost use Prim.Native.Nat.{_+_, _-_, _*_, _≤_, _<_};
 ghost use lib.ListN.{length};
 ghost use Rattle.ascii.specs.Class.{isDigit, all};
 ghost use Rattle.figures.specs.Total.{total};
-ghost use Rattle.corrections.specs.Totals.{mostOf, folds, share, Weights};
+ghost use Rattle.corrections.specs.Listing.{mostOf};
+ghost use Rattle.corrections.specs.Totals.{folds, share, Weights};
 use super::five::Five;
 
 // The weights from the right, and zeros where a number ends before.
