@@ -9,3 +9,6 @@ pub mod Members
 pub mod Exact
 pub mod Fixes
 mod Rows
+pub mod Theorems
+pub mod Finished
+pub mod Cases

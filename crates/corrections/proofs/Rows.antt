@@ -36,7 +36,7 @@ module _ (r : Rule) (s : List ℕ) where
   unfolding exchanges
   exchanges-rows = each-rows (length s - 1) (length s) (λ i. kept r (exchanged s i)) (λ i h. kept-rows (exchanged s i) (length s) (simp length-set))
 
-  corrections-rows : length (joined (corrections r s)) ≡ length (corrections r s) * length s
+  pub corrections-rows : length (joined (corrections r s)) ≡ length (corrections r s) * length s
   unfolding corrections
   corrections-rows = rows-append (replacements r s) (exchanges r s) (length s) replacements-rows exchanges-rows
 
@@ -55,7 +55,7 @@ module _ (k : Five) (s : List ℕ) (room : ℕ) where
   unfolding listedNumber
   listed-room e h = room-short (goodReason (ruleOf k) s) (roomFor (length s)) room _ (refused-none e) h
 
-  listed-all : accepts (ruleOf k) s ≡ false → roomFor (length s) ≤ room
+  pub listed-all : accepts (ruleOf k) s ≡ false → roomFor (length s) ≤ room
       → listedNumber k s room ≡ success (length (corrections (ruleOf k) s)) (joined (corrections (ruleOf k) s))
   unfolding listedNumber
   listed-all e h = room-enough (goodReason (ruleOf k) s) (roomFor (length s)) room _ (refused-none e) h

@@ -6,13 +6,18 @@ use mathlib.Core.List.{List, [], _∷_, List·Memᴰ}
 use Prim.Native.Nat.{ℕ, _+_, _-_, _*_, _≤_, _<_}
 use lib.ListN.{length, getD}
 use Rattle.answer.specs.declared.reason.Reason.the-variants.{NoReason}
+use Rattle.text.specs.Answer.{normalText, textOf}
 use Rattle.figures.specs.Total.{number}
 use Rattle.rules.specs.declared.rule.Rule.{Rule}
 use Rattle.rules.specs.Finding.{accepts}
 use Rattle.corrections.specs.declared.five.Five.{Five}
 use Rattle.corrections.specs.declared.five.Five.the-variants.{Gln, Norway, Belgium, Sweden, Australia}
-use Rattle.corrections.specs.Five.{ruleOf}
-use Rattle.corrections.specs.Completing.{figureFor, numberOf, noFigure}
+use Rattle.corrections.specs.declared.five.Known.the-variants.{One}
+use Rattle.corrections.specs.Five.{ruleOf, fiveOf}
+use Rattle.corrections.specs.Outcome.{success}
+use Rattle.corrections.specs.Completing.{figureFor, numberOf, noFigure, completing}
+use Rattle.corrections.specs.Entries.{joined}
+use Rattle.corrections.specs.Listing.{roomFor, listing}
 
 -- ---- completing
 
@@ -33,6 +38,13 @@ pub record Completed (k : Five) (body : List ℕ) : Type 0 where
 abbrev pub NoneCompletes : Five → List ℕ → Type 0
 NoneCompletes k body =
     (noFigure k body ≡ NoReason → ⊥) ↔ ((y : List ℕ) → length y ≡ length (figureFor k body) → accepts (ruleOf k) (numberOf k body y) ≡ false)
+
+-- a completion that is done: of one of the five; it writes the figure that completes the body
+pub record CompletedAs (scheme body : List ℕ) (room : ℕ) : Type 0 where
+  pub kind : Five
+  pub known : fiveOf scheme ≡ One kind
+  pub completed : Completed kind body
+  pub outcome : completing scheme body room ≡ success (length (figureFor kind body)) (figureFor kind body)
 
 -- ---- listing
 
@@ -63,8 +75,18 @@ abbrev pub Once : List (List ℕ) → Type 0
 Once [] = Unit
 Once (t ∷ ts) = (List·Memᴰ t ts → ⊥) × Once ts
 
--- a list of every correction of s and nothing else, each once, at most 2n - 1
+-- a list of every correction of s and nothing else, each once, at most 2n - 1, so that the required room suffices
 pub record Whole (r : Rule) (s : List ℕ) (entries : List (List ℕ)) : Type 0 where
   pub every : (t : List ℕ) → List·Memᴰ t entries ↔ Correction r s t
   pub once : Once entries
   pub few : length entries ≤ 2 * length s - 1
+  pub room : length (joined entries) ≤ roomFor (length s)
+
+-- a listing that is done: of one of the five, of a number that its rule refuses; it counts and writes all its corrections
+pub record Listed (scheme content : List ℕ) (room : ℕ) : Type 0 where
+  pub kind : Five
+  pub known : fiveOf scheme ≡ One kind
+  pub refused : accepts (ruleOf kind) (textOf (normalText content)) ≡ false
+  pub entries : List (List ℕ)
+  pub whole : Whole (ruleOf kind) (textOf (normalText content)) entries
+  pub outcome : listing scheme content room ≡ success (length entries) (joined entries)
