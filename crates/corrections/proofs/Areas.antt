@@ -1,13 +1,13 @@
 -- Laws of areas, and of lists made by counting. Assumes nothing.
-use mathlib.Core.Path.{_≡_, refl, sym, ap, _∙_, subst}
+use mathlib.Core.Path.{_≡_, refl, sym, ap, _∙_}
 use mathlib.Core.Bool.{Bool, true, false}
 use mathlib.Core.List.{List, [], _∷_, _++_, append-assoc, append-nil}
 use Prim.Native.Nat.{ℕ, zero, suc, _+_, _-_, _*_, _≤_, _<_}
-use native.Mathlib.Nat.{mul-le-mul, mul-le-mul-right, suc-mul, zero-mul, zero-add, add-zero, add-mul}
+use native.Mathlib.Nat.{mul-le-mul, mul-le-mul-right, suc-mul, zero-add, add-zero, add-mul}
 use native.Mathlib.Numerals.{add-one}
 use native.Mathlib.Decide.{ℕ-discrete}
 use native.Mathlib.Omega.{arith}
-use lib.ListN.{length, take, drop, set, getD, length-append, length-take, length-drop, take-append-drop, drop-of-length-le}
+use lib.ListN.{length, take, drop, length-append, length-take, length-drop, take-append-drop, drop-of-length-le}
 use lib.Seq.{take-at, drop-at, drop-drop, length-take-le, take-all}
 use Rattle.corrections.specs.Outcome.{over}
 use Rattle.corrections.specs.Entries.{each, only, joined, put, Put, Filling}

@@ -1,11 +1,9 @@
 -- A completed number is accepted, by one figure alone; and a body is refused exactly when no figure completes it. Assumes nothing.
 use mathlib.Core.Path.{_≡_, refl, sym, _∙_}
-use mathlib.Core.Bool.{true, false}
-use mathlib.Core.Logic.{_↔_}
+use mathlib.Core.Bool.{true}
 use mathlib.Core.List.{List}
 use Prim.Native.Nat.{ℕ}
 use native.Mathlib.Omega.{arith}
-use lib.ListN.{length}
 use Rattle.ascii.proofs.Tests.{false-true}
 use Rattle.answer.specs.declared.reason.Reason.the-variants.{NoReason}
 use Rattle.forms.specs.Form.{fits}
@@ -14,8 +12,7 @@ use Rattle.figures.proofs.Completing.{gln-completes, mod11-completes, mod11-non
 use Rattle.rules.specs.Finding.{accepts}
 use Rattle.corrections.specs.declared.five.Five.{Five}
 use Rattle.corrections.specs.declared.five.Five.the-variants.{Gln, Norway, Belgium, Sweden, Australia}
-use Rattle.corrections.specs.Five.{ruleOf}
-use Rattle.corrections.specs.Completing.{bodyForm, figureFor, numberOf, noFigure}
+use Rattle.corrections.specs.Completing.{bodyForm, figureFor, noFigure}
 use Rattle.corrections.specs.Meaning.{Completed, NoneCompletes}
 
 pub completed : (k : Five) (body : List ℕ) → fits (bodyForm k) body ≡ true → noFigure k body ≡ NoReason → Completed k body

@@ -1,14 +1,14 @@
 -- One total says what the rule says: of a number of the right form, and of one with a digit replaced or two exchanged. Assumes nothing.
 use mathlib.Core.Path.{_≡_, refl, sym, ap, _∙_}
 use mathlib.Core.Bool.{Bool, true, false, not, _&&_}
-use mathlib.Core.List.{List, [], _∷_, _++_}
+use mathlib.Core.List.{List, [], _∷_}
 use Prim.Native.Nat.{ℕ, _+_, _-_, _*_, _/_, _%_, _^_, _≤_, _<_}
 use native.Mathlib.Nat.{mul-assoc}
 use native.Mathlib.Omega.{arith}
 use borrow.Author.Tests.{eqb-true}
 use lib.Dec.{eqb}
 use lib.IntN.{natAbs, subℕ}
-use lib.ListN.{length, getD, set, take, drop, length-set, length-take, length-drop, take-append-drop}
+use lib.ListN.{length, set, take, drop, length-set, length-take, length-drop, take-append-drop}
 use Rattle.ascii.specs.Class.{isDigit, all}
 use Rattle.ascii.proofs.Tests.{eqb-iff, below-at}
 use Rattle.ascii.proofs.Class.{digit-bounds, digit-inside, all-first, all-rest, all-drop}

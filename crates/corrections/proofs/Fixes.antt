@@ -1,5 +1,5 @@
 -- At each place at most one digit makes the rule accept. Assumes nothing.
-use mathlib.Core.Path.{_≡_, refl, sym, ap, _∙_}
+use mathlib.Core.Path.{_≡_, sym, ap, _∙_}
 use mathlib.Core.Bool.{true, false}
 use mathlib.Core.List.{List, [], _∷_}
 use Prim.Native.Nat.{ℕ, _+_, _≤_, _<_}
@@ -7,7 +7,7 @@ use native.Mathlib.Omega.{arith}
 use native.Mathlib.Decide.{ℕ-discrete}
 use borrow.Author.Tests.{lt-ltb, le-ltb}
 use lib.Dec.{ltb}
-use lib.ListN.{length, set, length-set}
+use lib.ListN.{length, length-set}
 use lib.Seq.{getD-set-same, set-set}
 use Rattle.ascii.specs.Class.{isDigit, all}
 use Rattle.ascii.proofs.Tests.{false-true, not-true}
@@ -19,7 +19,7 @@ use Rattle.rules.proofs.Detection.{replaced-0088, replaced-0192, replaced-0208,
 use Rattle.corrections.specs.declared.five.Five.{Five}
 use Rattle.corrections.specs.declared.five.Five.the-variants.{Gln, Norway, Belgium, Sweden, Australia}
 use Rattle.corrections.specs.Five.{ruleOf}
-use Rattle.corrections.specs.Entries.{each, only}
+use Rattle.corrections.specs.Entries.{only}
 use Rattle.corrections.specs.Corrections.{kept, replaced, fixesAt}
 use Rattle.corrections.proofs.Areas.{each-none, each-one}
 

@@ -8,7 +8,7 @@ use borrow.Author.Tests.{le-leb, lt-leb}
 use lib.ListN.{length, set}
 use Rattle.ascii.specs.Pick.{pick}
 use Rattle.answer.specs.declared.reason.Reason.{Reason}
-use Rattle.answer.specs.declared.reason.Reason.the-variants.{NoReason, Form as FormReason, Room}
+use Rattle.answer.specs.declared.reason.Reason.the-variants.{Form as FormReason, Room}
 use Rattle.answer.specs.Answers.{none, first}
 use Rattle.forms.specs.Form.{Form, fits}
 use Rattle.corrections.specs.declared.done.Done.{Done}

@@ -1,10 +1,9 @@
 -- The entries of a list are rows of one length, so that their bytes count them; and what a listing answers. Assumes nothing.
-use mathlib.Core.Path.{_≡_, refl, sym, ap, _∙_}
+use mathlib.Core.Path.{_≡_, ap, _∙_}
 use mathlib.Core.Bool.{true, false}
 use mathlib.Core.List.{List}
 use Prim.Native.Nat.{ℕ, _+_, _-_, _*_, _/_, _≤_, _<_}
 use native.Mathlib.Nat.{mul-div-cancel}
-use native.Mathlib.Omega.{arith}
 use lib.ListN.{length, length-set}
 use Rattle.ascii.specs.Pick.{pick}
 use Rattle.answer.specs.declared.reason.Reason.the-variants.{NoReason, Good, Room}
@@ -19,7 +18,7 @@ use Rattle.corrections.specs.Entries.{only, joined, Filling}
 use Rattle.corrections.specs.Corrections.{kept, replaced, fixesAt, replacements, exchanges, corrections}
 use Rattle.corrections.specs.Listing.{roomFor, goodReason, listedNumber}
 use Rattle.corrections.proofs.Areas.{each-rows, joined-only, rows-append}
-use Rattle.corrections.proofs.Outcomes.{room-short, room-enough, before-room}
+use Rattle.corrections.proofs.Outcomes.{room-short, room-enough}
 
 module _ (r : Rule) (s : List ℕ) where
   kept-rows : (t : List ℕ) (n : ℕ) → length t ≡ n → length (joined (kept r t)) ≡ length (kept r t) * n

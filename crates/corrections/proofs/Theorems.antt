@@ -2,7 +2,7 @@
 use mathlib.Core.Path.{_≡_, refl, sym, ap, _∙_}
 use mathlib.Core.Bool.{Bool, true, false, true≢false}
 use mathlib.Core.Logic.{_↔_, _⊎_, inl, inr, ⊎-elim}
-use mathlib.Core.List.{List, [], _∷_, _++_, List·Memᴰ, List·Memᴰ·head, List·Memᴰ·not-nil, List·Memᴰ·eq-of-singleton, Memᴰ·append-left, Memᴰ·append-right, List·Memᴰ·append-cases}
+use mathlib.Core.List.{List, _++_, List·Memᴰ·head, List·Memᴰ·not-nil, List·Memᴰ·eq-of-singleton, Memᴰ·append-left, Memᴰ·append-right, List·Memᴰ·append-cases}
 use Prim.Native.Nat.{ℕ, zero, suc, _+_, _-_, _*_, _≤_, _<_}
 use native.Mathlib.Nat.{mul-le-mul-right}
 use native.Mathlib.Omega.{arith}
@@ -18,7 +18,7 @@ use Rattle.corrections.specs.Five.{ruleOf}
 use Rattle.corrections.specs.Entries.{each, only}
 use Rattle.corrections.specs.Corrections.{kept, replaced, fixesAt, replacements, exchanges, corrections}
 use Rattle.corrections.specs.Meaning.{OneDigit, Neighbours, Correction, Once, Whole}
-use Rattle.corrections.proofs.Fixes.{kept-no, kept-yes, fixes-hit, fixes-none, accepted-digits}
+use Rattle.corrections.proofs.Fixes.{kept-yes, fixes-hit, fixes-none, accepted-digits}
 use Rattle.corrections.proofs.Rows.{corrections-rows}
 use Rattle.corrections.proofs.Members.{In, in-each, each-in, once-append, once-each, each-length}
 

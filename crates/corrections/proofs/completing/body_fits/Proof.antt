@@ -1,5 +1,4 @@
 -- `corrections::completing::body_fits` meets its contract.
-use mathlib.Core.Path.{_≡_}
 use borrow.Author.Needs.{needs}
 use Rattle.corrections.proofs.completing.body_fits.Statement.{statement}
 use Rattle.corrections.proofs.completing.body_fits.Tie as tie

@@ -1,6 +1,5 @@
 -- `corrections::completing::body_total` meets its contract.
-use mathlib.Core.Path.{_≡_, sym, _∙_}
-use mathlib.Core.Bool.{true, false}
+use mathlib.Core.Path.{sym, _∙_}
 use denote.Ref.{now}
 use Rattle.ascii.specs.Pick.{pick}
 use Rattle.corrections.proofs.Checks.{is-body, pair-total, digit-total}

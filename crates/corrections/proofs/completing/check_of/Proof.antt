@@ -1,5 +1,4 @@
 -- `corrections::completing::check_of` meets its contract.
-use mathlib.Core.Path.{_≡_, refl}
 use borrow.Author.Needs.{needs}
 use Rattle.corrections.proofs.completing.check_of.Statement.{statement}
 use Rattle.corrections.proofs.completing.check_of.Tie as tie

@@ -1,6 +1,5 @@
 -- `corrections::completing::complete` meets its contract.
-use mathlib.Core.Path.{_≡_, sym, ap, _∙_}
-use Rattle.corrections.specs.Five.{fiveOf}
+use mathlib.Core.Path.{sym, _∙_}
 use Rattle.corrections.specs.Completing.{completing}
 use Rattle.corrections.proofs.Outcomes.{works-refused}
 use borrow.Author.Needs.{needs}

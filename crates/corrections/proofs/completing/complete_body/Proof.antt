@@ -1,13 +1,13 @@
 -- `corrections::completing::complete_body` meets its contract.
-use mathlib.Core.Path.{_≡_, refl, sym, ap, _∙_}
-use mathlib.Core.Bool.{true, false}
+use mathlib.Core.Path.{_≡_, sym, ap, _∙_}
+use mathlib.Core.Bool.{true}
 use denote.Ref.{now}
 use Rattle.ascii.specs.Pick.{pick}
 use Rattle.answer.specs.Answers.{none}
 use Rattle.answer.proofs.Laws.{is-none, is-given}
-use Rattle.corrections.specs.Outcome.{success, unless, Works}
+use Rattle.corrections.specs.Outcome.{success}
 use Rattle.corrections.specs.Completing.{figureFor, noFigure, completedBody}
-use Rattle.corrections.specs.Totals.{isPair, checkOf, noneBy, bodyTotal}
+use Rattle.corrections.specs.Totals.{checkOf, noneBy, bodyTotal}
 use Rattle.corrections.proofs.Outcomes.{works-refused, room-short, room-enough, before-room}
 use Rattle.corrections.proofs.Checks.{is-body, figure-is, none-is, check-small, digit-small}
 use borrow.Author.Needs.{needs}

@@ -1,5 +1,5 @@
 -- `corrections::completing::is_digits` meets its contract.
-use mathlib.Core.Path.{_≡_, refl, sym, ap, _∙_}
+use mathlib.Core.Path.{sym, ap, _∙_}
 use Rattle.forms.specs.Form.{isFit, fits}
 use borrow.Author.Needs.{needs}
 use Rattle.corrections.proofs.completing.is_digits.Statement.{statement}

@@ -1,5 +1,4 @@
 -- `corrections::completing::no_figure` meets its contract.
-use mathlib.Core.Path.{_≡_}
 use borrow.Author.Needs.{needs}
 use Rattle.corrections.proofs.completing.no_figure.Statement.{statement}
 use Rattle.corrections.proofs.completing.no_figure.Tie as tie

@@ -1,5 +1,5 @@
 -- `corrections::entries::put_fix` meets its contract.
-use mathlib.Core.Path.{_≡_, _∙_, refl}
+use mathlib.Core.Path.{_∙_, refl}
 use Prim.Native.Nat.{_+_, _-_}
 use denote.Ref.{now}
 use lib.ListN.{length, length-set}

@@ -1,5 +1,5 @@
 -- `corrections::entries::put_swap` meets its contract.
-use mathlib.Core.Path.{_≡_, _∙_, sym, refl}
+use mathlib.Core.Path.{_∙_, sym, refl}
 use Prim.Native.Nat.{_+_, _-_}
 use denote.Ref.{now}
 use lib.ListN.{length, length-set}

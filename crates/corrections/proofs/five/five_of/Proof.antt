@@ -1,5 +1,5 @@
 -- `corrections::five::five_of` meets its contract.
-use mathlib.Core.Path.{_≡_, sym, _∙_}
+use mathlib.Core.Path.{sym, _∙_}
 use Rattle.ascii.specs.Pick.{pick}
 use Rattle.corrections.specs.Five.{fiveOf}
 use borrow.Author.Needs.{needs}

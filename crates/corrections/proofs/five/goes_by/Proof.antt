@@ -1,5 +1,5 @@
 -- `corrections::five::goes_by` meets its contract.
-use mathlib.Core.Path.{_≡_, sym, ap, _∙_}
+use mathlib.Core.Path.{ap, _∙_}
 use denote.Ref.{now}
 use Rattle.rules.specs.Facts.{facts}
 use Rattle.corrections.proofs.Schemes.{by-none, by-other, by-four}

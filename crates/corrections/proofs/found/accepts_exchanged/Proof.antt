@@ -1,5 +1,5 @@
 -- `corrections::found::accepts_exchanged` meets its contract.
-use mathlib.Core.Path.{_≡_, _∙_}
+use mathlib.Core.Path.{_∙_}
 use denote.Ref.{now}
 use Prim.Native.Nat.{_+_}
 use Rattle.ascii.specs.Class.{isDigit}

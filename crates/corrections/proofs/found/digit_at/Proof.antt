@@ -1,8 +1,8 @@
 -- `corrections::found::digit_at` meets its contract.
-use mathlib.Core.Path.{_≡_, _∙_, sym, ap, refl}
+use mathlib.Core.Path.{_≡_, _∙_, sym, ap}
 use mathlib.Core.Bool.{false}
-use Prim.Native.Nat.{ℕ, _+_, _≤_, _<_, _-_}
-use borrow.Author.Count.{below-none, below-more}
+use Prim.Native.Nat.{ℕ, _≤_, _<_, _-_}
+use borrow.Author.Count.{below-more}
 use denote.Ref.{now}
 use lib.ListN.{length}
 use Rattle.ascii.specs.Class.{isDigit}

@@ -1,5 +1,4 @@
 -- `corrections::found::passes` meets its contract.
-use mathlib.Core.Path.{_≡_}
 use borrow.Author.Needs.{needs}
 use Rattle.corrections.proofs.found.passes.Statement.{statement}
 use Rattle.corrections.proofs.found.passes.Tie as tie

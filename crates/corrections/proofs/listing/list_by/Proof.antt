@@ -1,7 +1,6 @@
 -- `corrections::listing::list_by` meets its contract.
 use mathlib.Core.Path.{_≡_, sym, ap, _∙_}
 use denote.Ref.{now}
-use lib.ListN.{length}
 use Rattle.answer.proofs.Laws.{is-none, is-given}
 use Rattle.text.specs.declared.area.Text.{Text}
 use Rattle.text.specs.Answer.{readableOf, textOf}

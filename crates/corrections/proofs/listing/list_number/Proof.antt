@@ -1,12 +1,9 @@
 -- `corrections::listing::list_number` meets its contract.
-use mathlib.Core.Path.{_≡_, _∙_, sym, ap}
-use mathlib.Core.Bool.{true, false}
-use Prim.Native.Nat.{_+_, _≤_}
-use native.Mathlib.Nat.{add-zero}
+use mathlib.Core.Path.{_∙_, sym}
+use Prim.Native.Nat.{_≤_}
 use denote.Ref.{now}
 use lib.ListN.{length}
 use Rattle.forms.proofs.OfDigits.{Digits, digits-true}
-use Rattle.figures.specs.Total.{total}
 use Rattle.corrections.specs.Listing.{leastOf, mostOf}
 use Rattle.corrections.specs.Totals.{share, Summed}
 use Rattle.corrections.proofs.Areas.{small-joined}

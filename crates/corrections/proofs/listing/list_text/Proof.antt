@@ -1,5 +1,5 @@
 -- `corrections::listing::list_text` meets its contract.
-use mathlib.Core.Path.{_≡_, sym, _∙_}
+use mathlib.Core.Path.{sym, _∙_}
 use Rattle.corrections.specs.Listing.{listedText}
 use Rattle.corrections.proofs.Outcomes.{works-refused, form-met, form-unmet}
 use borrow.Author.Needs.{needs}

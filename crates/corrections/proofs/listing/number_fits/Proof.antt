@@ -1,5 +1,4 @@
 -- `corrections::listing::number_fits` meets its contract.
-use mathlib.Core.Path.{_≡_}
 use borrow.Author.Needs.{needs}
 use Rattle.corrections.proofs.listing.number_fits.Statement.{statement}
 use Rattle.corrections.proofs.listing.number_fits.Tie as tie

@@ -1,6 +1,6 @@
 -- `corrections::total::share` meets its contract.
-use mathlib.Core.Path.{_≡_, sym, _∙_}
-use Rattle.corrections.proofs.Totals.{most-20, product-small, share-plain, share-folded, share-small}
+use mathlib.Core.Path.{sym, _∙_}
+use Rattle.corrections.proofs.Totals.{most-20, product-small, share-plain, share-folded}
 use native.Mathlib.Omega.{arith}
 use borrow.Author.Needs.{needs}
 use Rattle.corrections.proofs.total.share.Statement.{statement}

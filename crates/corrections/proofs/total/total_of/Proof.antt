@@ -2,7 +2,7 @@
 use mathlib.Core.Path.{_≡_, ap, _∙_}
 use Prim.Native.Nat.{ℕ, _+_, _-_, _*_, _≤_}
 use denote.Ref.{now}
-use lib.ListN.{length, drop, getD}
+use lib.ListN.{length, drop}
 use Rattle.ascii.specs.Class.{isDigit}
 use Rattle.ascii.proofs.Class.{all-at}
 use Rattle.figures.specs.Total.{total}
