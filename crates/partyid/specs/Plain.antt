@@ -8,7 +8,14 @@ use Rattle.text.specs.declared.utf8.Step.the-variants.{Point, Refused}
 use Rattle.answer.specs.declared.reason.Reason.{Reason}
 use Rattle.answer.specs.declared.record.Answer.{Answer}
 use Rattle.answer.specs.Numbers.{verdictNumber, severityNumber, reasonNumber}
+use Rattle.guard.specs.declared.code.Code.{Code}
+use Rattle.guard.specs.declared.code.Withdrawal.{Withdrawal}
+use Rattle.guard.specs.declared.code.Withdrawal.the-variants.{NotWithdrawn, NoSuccessor, Successor}
+use Rattle.corrections.specs.declared.done.Done.{Done}
+use Rattle.corrections.specs.Outcome.{Outcome, over}
 use Rattle.partyid.specs.declared.plain.PartyidAnswer.{PartyidAnswer}
+use Rattle.partyid.specs.declared.plain.PartyidDone.{PartyidDone}
+use Rattle.partyid.specs.declared.plain.PartyidCode.{PartyidCode}
 use Rattle.partyid.specs.declared.plain.PartyidPoint.{PartyidPoint}
 use Rattle.partyid.specs.declared.plain.PartyidText.{PartyidText}
 
@@ -35,3 +42,20 @@ plainAnswer a =
       severity = severityNumber (a .severity);
       reason = reasonNumber (a .reason);
     }
+
+abbrev pub fourBytes : ℕ → Code → PartyidCode
+fourBytes n s = record { answer = n; a = s .a; b = s .b; c = s .c; d = s .d }
+
+-- 0 not withdrawn, 1 withdrawn with no successor, 2 with the successor's four bytes
+unfoldable pub plainCode : Withdrawal → PartyidCode
+plainCode NotWithdrawn = fourBytes 0 (record { a = 0; b = 0; c = 0; d = 0 })
+plainCode NoSuccessor = fourBytes 1 (record { a = 0; b = 0; c = 0; d = 0 })
+plainCode (Successor s) = fourBytes 2 s
+
+unfoldable pub plainDone : Done → PartyidDone
+plainDone r = record { reason = reasonNumber (r .reason); count = r .count }
+
+-- a completion or a listing as a program in C has it: two numbers, and the area, in which every byte that is not written stays
+pub record Performed (o : Outcome) (area : List ℕ) (r : PartyidDone) (after : List ℕ) : Type 0 where
+  pub numbers : r ≡ plainDone (o .says)
+  pub bytes : after ≡ over (o .writes) area

@@ -2,14 +2,21 @@
 mod checks;
 mod content;
 mod plain;
+mod work;
 
 pub use checks::partyid_check;
+pub use checks::partyid_eas_value;
 pub use checks::partyid_is_valid_creditor_identifier;
 pub use checks::partyid_is_valid_iban_checksum;
+pub use checks::partyid_withdrawn;
 pub use content::partyid_decode;
 pub use content::partyid_is_white;
 pub use content::partyid_normalize_space;
 pub use content::partyid_strip;
 pub use plain::PartyidAnswer;
+pub use plain::PartyidCode;
+pub use plain::PartyidDone;
 pub use plain::PartyidPoint;
 pub use plain::PartyidText;
+pub use work::partyid_complete;
+pub use work::partyid_list;
