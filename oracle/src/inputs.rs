@@ -1,5 +1,6 @@
 //! The contents on which the two sides are compared.
 
+use crate::identifiers::near;
 use crate::library::AREA;
 use crate::random::Random;
 
@@ -151,8 +152,9 @@ fn lengths(each: &mut impl FnMut(&[u8])) {
 pub fn random(r: &mut Random, content: &mut Vec<u8>) {
     content.clear();
     match r.below(100) {
-        0..=44 => text(r, content, 24),
-        45..=64 => identifier(r, content),
+        0..=14 => text(r, content, 24),
+        15..=54 => near(r, content),
+        55..=64 => identifier(r, content),
         65..=74 => (0..r.below(12)).for_each(|_| content.push(r.byte())),
         75..=94 => text(r, content, 40),
         95..=98 => text(r, content, 200),

@@ -1,5 +1,8 @@
 //! The proved library beside the Rust that it was carried over from.
 
+pub mod accounts;
+pub mod corrections;
+pub mod identifiers;
 pub mod inputs;
 pub mod invoice;
 pub mod library;
@@ -7,6 +10,7 @@ pub mod library;
 pub mod original;
 pub mod random;
 pub mod report;
+pub mod rules;
 pub mod text;
 
 // the copied text names it here

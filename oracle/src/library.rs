@@ -19,12 +19,70 @@ pub struct Text {
     pub len: usize,
 }
 
+/// The four numbers of an answer.
+#[repr(C)]
+#[derive(Clone, Copy, Debug, PartialEq, Eq)]
+pub struct Answer {
+    pub verdict: u32,
+    pub rule: u32,
+    pub severity: u32,
+    pub reason: u32,
+}
+
+/// 0 not withdrawn, 1 with no successor, 2 with the successor's four bytes.
+#[repr(C)]
+#[derive(Clone, Copy, Debug, PartialEq, Eq)]
+pub struct Code {
+    pub answer: u32,
+    pub successor: [u8; 4],
+}
+
+/// The reason of a completion or a listing, and what it counts.
+#[repr(C)]
+#[derive(Clone, Copy, Debug, PartialEq, Eq)]
+pub struct Done {
+    pub reason: u32,
+    pub count: usize,
+}
+
 #[link(name = "partyid", kind = "static")]
 unsafe extern "C" {
     fn partyid_decode(content: *const u8, len: usize, at: usize) -> Point;
     fn partyid_is_white(c: u32) -> bool;
     fn partyid_normalize_space(content: *const u8, len: usize, area: *mut [u8; AREA]) -> Text;
     fn partyid_strip(content: *const u8, len: usize, area: *mut [u8; AREA]) -> Text;
+    fn partyid_check(
+        scheme: *const u8,
+        scheme_len: usize,
+        term: u32,
+        content: *const u8,
+        len: usize,
+    ) -> Answer;
+    fn partyid_is_valid_iban_checksum(content: *const u8, len: usize) -> Answer;
+    fn partyid_is_valid_creditor_identifier(content: *const u8, len: usize) -> Answer;
+    fn partyid_eas_value(
+        scheme: *const u8,
+        scheme_len: usize,
+        content: *const u8,
+        len: usize,
+    ) -> Answer;
+    fn partyid_withdrawn(code: *const u8, len: usize) -> Code;
+    fn partyid_complete(
+        scheme: *const u8,
+        scheme_len: usize,
+        body: *const u8,
+        len: usize,
+        out: *mut u8,
+        room: usize,
+    ) -> Done;
+    fn partyid_list(
+        scheme: *const u8,
+        scheme_len: usize,
+        content: *const u8,
+        len: usize,
+        out: *mut u8,
+        room: usize,
+    ) -> Done;
 }
 
 // Each function takes any bytes: what it asks of a caller, a pointer with its length, is what a slice is.
@@ -43,4 +101,65 @@ pub fn normalize_space(content: &[u8], area: &mut [u8; AREA]) -> Text {
 
 pub fn strip(content: &[u8], area: &mut [u8; AREA]) -> Text {
     unsafe { partyid_strip(content.as_ptr(), content.len(), area) }
+}
+
+pub fn check(scheme: &[u8], term: u32, content: &[u8]) -> Answer {
+    unsafe {
+        partyid_check(
+            scheme.as_ptr(),
+            scheme.len(),
+            term,
+            content.as_ptr(),
+            content.len(),
+        )
+    }
+}
+
+pub fn is_valid_iban_checksum(content: &[u8]) -> Answer {
+    unsafe { partyid_is_valid_iban_checksum(content.as_ptr(), content.len()) }
+}
+
+pub fn is_valid_creditor_identifier(content: &[u8]) -> Answer {
+    unsafe { partyid_is_valid_creditor_identifier(content.as_ptr(), content.len()) }
+}
+
+pub fn eas_value(scheme: &[u8], content: &[u8]) -> Answer {
+    unsafe {
+        partyid_eas_value(
+            scheme.as_ptr(),
+            scheme.len(),
+            content.as_ptr(),
+            content.len(),
+        )
+    }
+}
+
+pub fn withdrawn(code: &[u8]) -> Code {
+    unsafe { partyid_withdrawn(code.as_ptr(), code.len()) }
+}
+
+pub fn complete(scheme: &[u8], body: &[u8], out: &mut [u8]) -> Done {
+    unsafe {
+        partyid_complete(
+            scheme.as_ptr(),
+            scheme.len(),
+            body.as_ptr(),
+            body.len(),
+            out.as_mut_ptr(),
+            out.len(),
+        )
+    }
+}
+
+pub fn list(scheme: &[u8], content: &[u8], out: &mut [u8]) -> Done {
+    unsafe {
+        partyid_list(
+            scheme.as_ptr(),
+            scheme.len(),
+            content.as_ptr(),
+            content.len(),
+            out.as_mut_ptr(),
+            out.len(),
+        )
+    }
 }

@@ -5,14 +5,18 @@ use std::time::Instant;
 
 use oracle::random::Random;
 use oracle::report::Report;
-use oracle::{inputs, text};
+use oracle::{accounts, corrections, inputs, rules, text};
 
 fn main() -> ExitCode {
     let count = argument(1, 1_000_000);
     let seed = argument(2, 1);
     let began = Instant::now();
-    let mut report = Report::new(text::subjects());
+    let subjects = [text::subjects(), rules::subjects(), accounts::subjects()];
+    let mut report = Report::new(subjects.into_iter().flatten().collect());
     report.add(text::white_points());
+    for row in corrections::rows(count.div_ceil(20), seed) {
+        report.add(row);
+    }
     inputs::fixed(&mut |content| report.compare(content));
     let mut random = Random::new(seed);
     let mut content = Vec::new();
