@@ -1,9 +1,9 @@
 -- Laws of check figures: what a finding shows (Judging), how a total changes (Shift), each rule's one total (Links), what is detected
 -- (Detect), which figure completes a body (Completing), how large totals are (Range), document 01's examples (Cases).
-mod Steps
+pub mod Steps
 pub mod Judging
-mod Digits
-mod Zeros
+pub mod Digits
+pub mod Zeros
 mod Italian
 mod Signed
 pub mod Shift

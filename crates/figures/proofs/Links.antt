@@ -47,7 +47,7 @@ se-orgnr-links s h =
     record { form = digits-fit 10 10 s (p .0); leaves = eqb-true _ _ (p .1) }
 
 -- the total of two parts, the first of which is weighted as if nothing stood to its right
-join : (f g h : ℕ → ℕ → ℕ) (u v : List ℕ)
+pub join : (f g h : ℕ → ℕ → ℕ) (u v : List ℕ)
     → ((k d : ℕ) → k < length u → f (k + length v) d ≡ g k d)
     → ((k d : ℕ) → k < length v → f k d ≡ h k d)
     → total f (u ++ v) ≡ total g u + total h v

@@ -1,0 +1,73 @@
+// Answers each line of standard input by a line on standard output.
+ghost use Prim.Native.Nat.{_<_, _≤_};
+ghost use lib.ListN.{length};
+use libc::STDIN_FILENO;
+use libc::STDOUT_FILENO;
+
+// Whether to go on, and how much of the window is kept.
+struct Next {
+    go: bool,
+    kept: usize,
+}
+
+// Writes, or says on standard error why it can't.
+fn write(text: &[u8]) -> bool {
+    let is_written = io::write_all(STDOUT_FILENO, text);
+    if !is_written {
+        os::fail(b"checklines: can't write");
+    }
+    is_written
+}
+
+// One turn: reads behind what is kept, answers the whole lines and writes. Where the input has ended and no whole line is left,
+// it answers the last line, which no newline ends.
+fn turn(buf: &mut [u8], kept: usize, out: &mut [u8]) -> Next
+    requires { ⌜ kept < length (now buf) ⌝ }
+    requires { ⌜ 1033 < length (now buf) ⌝ }
+    requires { ⌜ 16 ≤ length (now out) ⌝ }
+    ensures { λ r. ⌜ r .kept < length (now (buf .exit)) ⌝ }
+{
+    let got = libc::read(STDIN_FILENO, &mut buf[kept..]);
+    if got < 0 {
+        os::fail(b"checklines: can't read");
+        return Next { go: false, kept: 0 };
+    }
+    let fresh = io::count(got, &buf[kept..]);
+    let done = lines::step(buf, kept + fresh, out);
+    let put = done.put;
+    let next = done.kept;
+    if put == 0 {
+        if fresh == 0 {
+            let end = lines::last(&buf[..next], out);
+            write(&out[..end]);
+            return Next {
+                go: false,
+                kept: next,
+            };
+        }
+    }
+    let go = write(&out[..put]);
+    Next { go, kept: next }
+}
+
+fn answer_all(buf: &mut [u8], out: &mut [u8])
+    requires { ⌜ 1033 < length (now buf) ⌝ }
+    requires { ⌜ 16 ≤ length (now out) ⌝ }
+{
+    let mut kept = 0;
+    let mut turns = u64::MAX;
+    while turns > 0 {
+        let t = turn(buf, kept, out);
+        if !t.go {
+            return;
+        }
+        kept = t.kept;
+        turns -= 1;
+    }
+}
+
+fn main() {
+    let mut buf = io::large_buffer();
+    let mut out = io::large_buffer();
+    answer_all(&mut buf, &mut out);
+}

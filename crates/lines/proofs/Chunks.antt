@@ -1,0 +1,194 @@
+-- However the input is cut into chunks, what is written in all is what the definition says. Assumes nothing.
+use mathlib.Core.Path.{_≡_, refl, sym, _∙_, ap}
+use mathlib.Core.Bool.{true}
+use mathlib.Core.List.{List, [], _∷_, _++_, append-assoc, append-nil}
+use Prim.Native.Nat.{ℕ, zero, suc, _+_, _-_, _≤_, _<_}
+use native.Mathlib.Omega.{arith}
+use lib.Dec.{leb, ltb}
+use lib.ListN.{length, take, drop, length-append, length-take, length-drop}
+use lib.Seq.{take-nil, drop-drop}
+use borrow.Author.Tests.{leb-true, leb-false, ltb-true, ltb-false}
+use Rattle.answer.specs.declared.record.Answer.{Answer}
+use Rattle.answer.specs.Numbers.{verdictNumber, severityNumber, reasonNumber}
+use Rattle.lines.specs.Line.{newline, answerOf}
+use Rattle.lines.specs.Text.{field, decimal, textOf, lineText}
+use Rattle.lines.specs.Stream.{split, linesOf, answersTo, answers}
+use Rattle.lines.specs.Window.{usedOf, writtenOf, clipped, keptOf, lastOf, upto, writtenAll, keptAll, joined}
+use Rattle.lines.proofs.Heads.{answer-cut}
+use Rattle.lines.proofs.Splits.{by, Open, upto-le, split-line, open-take, fronted, lines-open, fronted-first, fronted-alone}
+use Rattle.lines.proofs.Windows.{Stops, stops-full, stops-open, written-none, used-none, written-line, used-line, clipped-line, clipped-open, last-none, last-line}
+
+-- ---- a line that is cut
+
+take-cut : (n : ℕ) (p r : List ℕ) → take n (take n p ++ r) ≡ take n (p ++ r)
+take-cut zero p r = refl
+take-cut (suc n) [] r = refl
+take-cut (suc n) (x ∷ p) r = ap (λ (l : List ℕ). x ∷ l) (take-cut n p r)
+
+pub line-cut : (p r : List ℕ) → lineText (take 1033 p ++ r) ≡ lineText (p ++ r)
+unfolding lineText
+line-cut p r =
+    ap textOf
+    (sym (answer-cut (take 1033 p ++ r)) ∙ ap answerOf (take-cut 1033 p r) ∙ answer-cut (p ++ r))
+
+line-clip : (p : List ℕ) → lineText (take 1033 p) ≡ lineText p
+line-clip p = rw (append-nil (take 1033 p), append-nil p) at (line-cut p [])
+
+-- ---- answers to lines
+
+answers-first : (l : List ℕ) (ls : List (List ℕ)) → answersTo (l ∷ ls) ≡ lineText l ++ answersTo ls
+unfolding answersTo
+answers-first l ls = refl
+
+answers-nil : answersTo [] ≡ []
+unfolding answersTo
+answers-nil = refl
+
+answers-line : (s t : List ℕ) → upto s < length s → answers (s ++ t) ≡ lineText (take (upto s) s) ++ answers (drop (upto s + 1) s ++ t)
+answers-line s t h = ap answersTo (split-line true s t h) ∙ answers-first (take (upto s) s) (linesOf (drop (upto s + 1) s ++ t))
+
+alone : (l : List ℕ) → answersTo (l ∷ []) ≡ lineText l
+alone l = answers-first l [] ∙ ap (λ (r : List ℕ). lineText l ++ r) answers-nil ∙ append-nil (lineText l)
+
+fronted-cut : (p : List ℕ) (ls : List (List ℕ)) → answersTo (fronted (take 1033 p) ls) ≡ answersTo (fronted p ls)
+fronted-cut [] [] = refl
+fronted-cut (b ∷ p) [] =
+    ap answersTo (fronted-alone b (take 1032 p))
+    ∙ alone (b ∷ take 1032 p)
+    ∙ line-clip (b ∷ p)
+    ∙ sym (alone (b ∷ p))
+    ∙ sym (ap answersTo (fronted-alone b p))
+fronted-cut p (l ∷ ls) =
+    ap answersTo (fronted-first (take 1033 p) l ls)
+    ∙ answers-first (take 1033 p ++ l) ls
+    ∙ ap (λ (r : List ℕ). r ++ answersTo ls) (line-cut p l)
+    ∙ sym (answers-first (p ++ l) ls)
+    ∙ sym (ap answersTo (fronted-first p l ls))
+
+-- ---- what is kept serves as the rest itself
+
+pub kept-open : (p t : List ℕ) → Open p → answers (take 1033 p ++ t) ≡ answers (p ++ t)
+kept-open p t o =
+    ap answersTo (lines-open (take 1033 p) t (open-take 1033 p o))
+    ∙ fronted-cut p (linesOf t)
+    ∙ sym (ap answersTo (lines-open p t o))
+
+pub kept-same : (rest t : List ℕ) → answers (clipped rest ++ t) ≡ answers (rest ++ t)
+kept-same rest t =
+    by (ltb (upto rest) (length rest))
+    (λ e. ap (λ (l : List ℕ). answers (l ++ t)) (clipped-line rest (ltb-true _ _ e)))
+    (λ e.
+    let o : Open rest = omega (arith, upto-le rest, ltb-false (upto rest) (length rest) e) in
+    ap (λ (l : List ℕ). answers (l ++ t)) (clipped-open rest o) ∙ kept-open rest t o)
+
+-- ---- one step
+
+-- however the input goes on, its answers are what is written and then the answers to what is left
+abbrev Told : ℕ → List ℕ → List ℕ → Type 0
+Told room s t = answers (s ++ t) ≡ writtenOf room s ++ answers (drop (usedOf room s) s ++ t)
+
+told-stop : (room : ℕ) (s t : List ℕ) → Stops room s → Told room s t
+told-stop room s t e = rw (written-none room s e, used-none room s e)
+
+told-line : (room : ℕ) (s t : List ℕ) → upto s < length s → 16 ≤ room
+    → ((r : ℕ) → Told r (drop (upto s + 1) s) t) → Told room s t
+told-line room s t k h told =
+    let l : List ℕ = take (upto s) s in
+    let s′ : List ℕ = drop (upto s + 1) s in
+    let room′ : ℕ = room - length (lineText l) in
+    answers-line s t k
+    ∙ ap (λ (a : List ℕ). lineText l ++ a) (told room′)
+    ∙ sym (append-assoc (lineText l) (writtenOf room′ s′) (answers (drop (usedOf room′ s′) s′ ++ t)))
+    ∙ ap (λ (a : List ℕ). a ++ answers (drop (usedOf room′ s′) s′ ++ t)) (sym (written-line room s (upto s) refl h k))
+    ∙ ap (λ (a : List ℕ). writtenOf room s ++ answers (a ++ t))
+    (drop-drop (usedOf room′ s′) (upto s + 1) s ∙ ap (λ (i : ℕ). drop i s) (sym (used-line room s (upto s) refl h k)))
+
+told-at : (n room : ℕ) (s t : List ℕ) → length s ≤ n → Told room s t
+told-at zero room [] t h = told-stop room [] t (stops-open room [] (omega (arith, upto-le [])))
+told-at zero room (b ∷ s) t h = absurd (omega arith)
+told-at (suc n) room s t h =
+    by (ltb (upto s) (length s))
+    (λ e.
+    by (leb 16 room)
+    (λ r.
+    told-line room s t (ltb-true _ _ e) (leb-true _ _ r)
+    (λ room′. told-at n room′ (drop (upto s + 1) s) t (omega (arith, length-drop (upto s + 1) s))))
+    (λ r. told-stop room s t (stops-full room s (leb-false _ _ r))))
+    (λ e. told-stop room s t (stops-open room s (omega (arith, upto-le s, ltb-false (upto s) (length s) e))))
+
+-- however the input goes on, its answers are what is written and then the answers to what is kept and goes on
+pub continue : (room : ℕ) (s t : List ℕ) → answers (s ++ t) ≡ writtenOf room s ++ answers (keptOf room s ++ t)
+unfolding keptOf
+continue room s t =
+    told-at (length s) room s t (omega arith)
+    ∙ ap (λ (a : List ℕ). writtenOf room s ++ a) (sym (kept-same (drop (usedOf room s) s) t))
+
+-- ---- chunk by chunk
+
+pub chunks : (room : ℕ) (kept : List ℕ) (cs : List (List ℕ)) (t : List ℕ)
+    → answers (kept ++ (joined cs ++ t)) ≡ writtenAll room kept cs ++ answers (keptAll room kept cs ++ t)
+unfolding joined writtenAll keptAll
+chunks room kept [] t = refl
+chunks room kept (c ∷ cs) t =
+    ap answers (ap (λ (l : List ℕ). kept ++ l) (append-assoc c (joined cs) t) ∙ sym (append-assoc kept c (joined cs ++ t)))
+    ∙ continue room (kept ++ c) (joined cs ++ t)
+    ∙ ap (λ (a : List ℕ). writtenOf room (kept ++ c) ++ a) (chunks room (keptOf room (kept ++ c)) cs t)
+    ∙ sym (append-assoc (writtenOf room (kept ++ c)) (writtenAll room (keptOf room (kept ++ c)) cs) (answers (keptAll room (keptOf room (kept ++ c)) cs ++ t)))
+
+-- ---- the end of the input
+
+some : (x d : List ℕ) (b : ℕ) → 0 < length (x ++ (d ++ b ∷ []))
+some x d b = omega (arith, length-append x (d ++ b ∷ []), length-append d (b ∷ []))
+
+answer-some : (a : Answer) → 0 < length (textOf a)
+unfolding textOf field
+answer-some a =
+    some (field (verdictNumber (a .verdict)) 32 ++ field (a .rule) 32 ++ field (severityNumber (a .severity)) 32)
+    (decimal (reasonNumber (a .reason)))
+    newline
+
+text-some : (l : List ℕ) → 0 < length (lineText l)
+unfolding lineText
+text-some l = answer-some (answerOf l)
+
+-- a step that writes nothing, where there is room, has met no newline
+pub nothing-open : (room : ℕ) (s : List ℕ) → 16 ≤ room → writtenOf room s ≡ [] → Open s
+nothing-open room s h e =
+    by (ltb (upto s) (length s))
+    (λ k.
+    let l : List ℕ = take (upto s) s in
+    let w : [] ≡ lineText l ++ writtenOf (room - length (lineText l)) (drop (upto s + 1) s) =
+    sym e ∙ written-line room s (upto s) refl h (ltb-true _ _ k) in
+    absurd
+    (omega (
+      arith,
+      text-some l,
+      ap length w,
+      length-append (lineText l) (writtenOf (room - length (lineText l)) (drop (upto s + 1) s)),
+    )))
+    (λ k. omega (arith, upto-le s, ltb-false (upto s) (length s) k))
+
+answers-empty : answers [] ≡ []
+unfolding answersTo split
+answers-empty = refl
+
+last-open : (room : ℕ) (s : List ℕ) → 16 ≤ room → Open s → lastOf room (take 1033 s) ≡ answers s
+unfolding split
+last-open room [] h o = last-none room (take 1033 []) (ap length (take-nil {A = ℕ} 1033)) ∙ sym answers-empty
+last-open room (b ∷ s) h o =
+    last-line room (take 1033 (b ∷ s)) h (λ z. absurd (omega (arith, length-take 1033 (b ∷ s))))
+    ∙ line-clip (b ∷ s)
+    ∙ sym (ap answersTo (rw (append-nil s) at (lines-open (b ∷ s) [] o) ∙ fronted-alone b s) ∙ alone (b ∷ s))
+
+-- where a step writes nothing, the last line's answer is the answers to what it read
+pub finish : (room : ℕ) (s : List ℕ) → 16 ≤ room → writtenOf room s ≡ [] → lastOf room (keptOf room s) ≡ answers s
+unfolding keptOf
+finish room s h e =
+    let o : Open s = nothing-open room s h e in
+    rw (used-none room s (stops-open room s o), clipped-open s o) (last-open room s h o)
+
+-- The whole run: the chunks cs, a step for each, and then a read that gives c and a step that writes nothing.
+pub whole-run : (room : ℕ) (cs : List (List ℕ)) (c : List ℕ) → 16 ≤ room → writtenOf room (keptAll room [] cs ++ c) ≡ []
+    → writtenAll room [] cs ++ lastOf room (keptOf room (keptAll room [] cs ++ c)) ≡ answers (joined cs ++ c)
+whole-run room cs c h e =
+    ap (λ (a : List ℕ). writtenAll room [] cs ++ a) (finish room (keptAll room [] cs ++ c) h e) ∙ sym (chunks room [] cs c)

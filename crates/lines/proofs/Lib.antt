@@ -1,0 +1,6 @@
+-- Laws of lines, their answers and the stream of them.
+pub mod Heads
+pub mod Texts
+pub mod Splits
+pub mod Windows
+pub mod Chunks

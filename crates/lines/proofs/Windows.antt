@@ -1,0 +1,315 @@
+-- One step over a window: what it writes, what it uses, what it keeps. Assumes nothing.
+use mathlib.Core.Path.{_≡_, refl, sym, _∙_, ap}
+use mathlib.Core.Bool.{Bool, true, false, _&&_}
+use mathlib.Core.List.{List, [], _∷_, _++_, append-assoc, append-nil}
+use Prim.Native.Nat.{ℕ, _+_, _-_, _≤_, _<_, min}
+use native.Mathlib.Nat.{add-comm, zero-add, sub-zero}
+use native.Mathlib.Numerals.{add-one}
+use native.Mathlib.Omega.{arith}
+use lib.Dec.{leb, ltb}
+use lib.ListN.{length, take, drop, getD, set, length-append, length-take, length-drop, take-append-drop}
+use lib.Seq.{take-all, take-take, drop-drop, length-take-le, getD-append-add, getD-drop, paste-suc}
+use borrow.Author.Tests.{le-leb, lt-leb, ltb-true, ltb-false}
+use Rattle.ascii.specs.Pick.{pick}
+use Rattle.lines.specs.Text.{lineText}
+use Rattle.lines.specs.Stream.{answersTo}
+use Rattle.lines.specs.Window.{ended, fitting, extent, writtenOf, usedOf, clipped, keptOf, lastOf, over, upto, Stored, Laid, StepRight}
+use Rattle.lines.proofs.Heads.{drop-take, take-least}
+use Rattle.lines.proofs.Texts.{stored-front, stored-behind}
+use Rattle.lines.proofs.Splits.{by, Open, upto-le, ended-line, ended-open, among-line, among-open}
+
+-- ---- the lines that fit
+
+fitting-none : (room : ℕ) → fitting room [] ≡ []
+unfolding fitting
+fitting-none room = refl
+
+pub fitting-full : (room : ℕ) (ls : List (List ℕ)) → room < 16 → fitting room ls ≡ []
+unfolding fitting pick
+fitting-full room [] h = refl
+fitting-full room (l ∷ ls) h = rw (lt-leb 16 room h)
+
+fitting-first : (room : ℕ) (l : List ℕ) (ls : List (List ℕ)) → 16 ≤ room → fitting room (l ∷ ls) ≡ l ∷ fitting (room - length (lineText l)) ls
+unfolding fitting pick
+fitting-first room l ls h = rw (le-leb 16 room h)
+
+-- a step stops where no line is ended, or 16 bytes are not free
+abbrev pub Stops : ℕ → List ℕ → Type 0
+Stops room s = fitting room (ended s) ≡ []
+
+pub stops-full : (room : ℕ) (s : List ℕ) → room < 16 → Stops room s
+stops-full room s h = fitting-full room (ended s) h
+
+pub stops-open : (room : ℕ) (s : List ℕ) → Open s → Stops room s
+stops-open room s o = ap (fitting room) (ended-open s o) ∙ fitting-none room
+
+pub written-none : (room : ℕ) (s : List ℕ) → Stops room s → writtenOf room s ≡ []
+unfolding writtenOf answersTo
+written-none room s e = rw e
+
+pub used-none : (room : ℕ) (s : List ℕ) → Stops room s → usedOf room s ≡ 0
+unfolding usedOf extent
+used-none room s e = rw e
+
+module _ (room : ℕ) (s : List ℕ) (n : ℕ) (e : n ≡ upto s) (h : 16 ≤ room) (k : n < length s) where
+  first : fitting room (ended s) ≡ take n s ∷ fitting (room - length (lineText (take n s))) (ended (drop (n + 1) s))
+  first =
+      ap (fitting room) (rw (← e) at (ended-line s (rw (← e) k)))
+      ∙ fitting-first room (take n s) (ended (drop (n + 1) s)) h
+
+  pub written-line : writtenOf room s ≡ lineText (take n s) ++ writtenOf (room - length (lineText (take n s))) (drop (n + 1) s)
+  unfolding writtenOf answersTo
+  written-line = rw first
+
+  pub used-line : usedOf room s ≡ n + 1 + usedOf (room - length (lineText (take n s))) (drop (n + 1) s)
+  unfolding usedOf extent
+  used-line = rw (first, length-take-le n s (omega arith))
+
+-- ---- feeding, line by line
+
+pub part-tail : (s : List ℕ) (n : ℕ) → take (length s - n) (drop n s) ≡ drop n s
+part-tail s n = take-all (length s - n) (drop n s) (omega (arith, length-drop n s))
+
+pub part-len : (s : List ℕ) (used : ℕ) → length (take (length s - used) (drop used s)) ≡ length s - used
+part-len s used = rw (part-tail s used, length-drop used s)
+
+-- what is written and used in all is what is done and then what remains
+pub record Feeding (s old new : List ℕ) (used put : ℕ) : Type 0 where
+  pub within : used ≤ length s
+  pub fits : put ≤ length new
+  pub size : length new ≡ length old
+  pub writes : writtenOf (length old) s ≡ take put new ++ writtenOf (length old - put) (drop used s)
+  pub uses : usedOf (length old) s ≡ used + usedOf (length old - put) (drop used s)
+  pub stays : drop put new ≡ drop put old
+
+pub feeding-none : (s o : List ℕ) → Feeding s o o 0 0
+feeding-none s o =
+    record {
+      within = omega arith;
+      fits = omega arith;
+      size = refl;
+      writes = rw (sub-zero (length o));
+      uses = rw (sub-zero (length o)) (sym (zero-add (usedOf (length o) s)));
+      stays = refl;
+    }
+
+module _ (s o new new′ rest : List ℕ) (used put put′ n : ℕ) (f : Feeding s o new used put) (er : rest ≡ take (length s - used) (drop used s))
+    (en : n ≡ upto rest) (h : n < length rest) (room : put + 16 ≤ length new) (st : Stored new new′ put put′ (lineText (take n rest)) 16) where
+  at-rest : drop used s ≡ rest
+  at-rest = sym (er ∙ part-tail s used)
+
+  abbrev text : List ℕ
+  text = lineText (take n rest)
+
+  free : 16 ≤ length o - put
+  free = omega (arith, f .size)
+
+  room-left : length o - put - length text ≡ length o - put′
+  room-left = omega (arith, st .next)
+
+  rest-left : drop (n + 1) rest ≡ drop (used + n + 1) s
+  rest-left =
+      let k : used + (n + 1) ≡ used + n + 1 = omega arith in
+      ap (drop (n + 1)) (sym at-rest) ∙ drop-drop (n + 1) used s ∙ ap (λ (i : ℕ). drop i s) k
+
+  writes-on : writtenOf (length o) s ≡ take put′ new′ ++ writtenOf (length o - put′) (drop (used + n + 1) s)
+  writes-on =
+      f .writes
+      ∙ ap (λ (l : List ℕ). take put new ++ writtenOf (length o - put) l) at-rest
+      ∙ ap (λ (l : List ℕ). take put new ++ l) (written-line (length o - put) rest n en free h)
+      ∙ sym (append-assoc (take put new) text (writtenOf (length o - put - length text) (drop (n + 1) rest)))
+      ∙ ap (λ (l : List ℕ). l ++ writtenOf (length o - put - length text) (drop (n + 1) rest)) (sym (stored-front new new′ put put′ text 16 st room))
+      ∙ ap (λ (r : ℕ). take put′ new′ ++ writtenOf r (drop (n + 1) rest)) room-left
+      ∙ ap (λ (l : List ℕ). take put′ new′ ++ writtenOf (length o - put′) l) rest-left
+
+  uses-on : usedOf (length o) s ≡ used + n + 1 + usedOf (length o - put′) (drop (used + n + 1) s)
+  uses-on =
+      let q : usedOf (length o - put) (drop used s) ≡ n + 1 + usedOf (length o - put′) (drop (used + n + 1) s) =
+      ap (usedOf (length o - put)) at-rest
+      ∙ used-line (length o - put) rest n en free h
+      ∙ ap (λ (r : ℕ). n + 1 + usedOf r (drop (n + 1) rest)) room-left
+      ∙ ap (λ (l : List ℕ). n + 1 + usedOf (length o - put′) l) rest-left in
+      omega (arith, f .uses, q)
+
+  behind : (l : List ℕ) → drop put′ l ≡ drop (length text) (drop put l)
+  behind l = ap (λ (k : ℕ). drop k l) (st .next) ∙ sym (drop-drop (length text) put l)
+
+  pub feeding-line : Feeding s o new′ (used + n + 1) put′
+  feeding-line =
+      record {
+        within = omega (arith, ap length er, part-len s used, f .within);
+        fits = omega (arith, st .short, st .size);
+        size = st .size ∙ f .size;
+        writes = writes-on;
+        uses = uses-on;
+        stays =
+            stored-behind new new′ put put′ text 16 st room
+            ∙ behind new
+            ∙ ap (drop (length text)) (f .stays)
+            ∙ sym (behind o);
+      }
+
+-- a text that stands at the start of an area
+pub laid : (old new : List ℕ) (count : ℕ) (text : List ℕ) → text ≡ take count new → count ≤ length new → length new ≡ length old
+    → drop count new ≡ drop count old → Laid old new count text
+laid old new count text e h size d =
+    let n : length text ≡ count = ap length e ∙ length-take-le count new h in
+    record {
+      wrote = sym (take-append-drop count new) ∙ rw (← e, d, n);
+      counted = sym n;
+      within = h;
+      size = size;
+      part = sym (length-take-le count new h);
+    }
+
+module _ (s o new : List ℕ) (used put : ℕ) (f : Feeding s o new used put) (stop : Stops (length o - put) (drop used s)) where
+  fed-used : used ≡ usedOf (length o) s
+  fed-used = omega (arith, f .uses, used-none (length o - put) (drop used s) stop)
+
+  fed-laid : Laid o new put (writtenOf (length o) s)
+  fed-laid =
+      laid o new put (writtenOf (length o) s)
+      (f .writes ∙ ap (λ (l : List ℕ). take put new ++ l) (written-none (length o - put) (drop used s) stop) ∙ append-nil (take put new))
+      (f .fits)
+      (f .size)
+      (f .stays)
+
+  pub fed-right : (used ≡ usedOf (length o) s) × ((used ≤ length s) × Laid o new put (writtenOf (length o) s))
+  fed-right = (fed-used, (f .within, fed-laid))
+
+-- a part that is the whole rest and has no newline
+pub part-open : (s rest : List ℕ) (used n : ℕ) → rest ≡ take (length s - used) (drop used s) → n ≡ upto rest → n ≡ length rest → Open (drop used s)
+part-open s rest used n e u l = let k : rest ≡ drop used s = e ∙ part-tail s used in rw k at (sym u ∙ l)
+
+-- ---- a rest that is kept
+
+pub clipped-line : (s : List ℕ) → upto s < length s → clipped s ≡ s
+unfolding clipped pick
+clipped-line s h = rw (among-line s h)
+
+pub clipped-open : (s : List ℕ) → Open s → clipped s ≡ take 1033 s
+unfolding clipped pick
+clipped-open s o = rw (among-open s o)
+
+pub clipped-short : (s : List ℕ) → length s ≤ 1033 → clipped s ≡ s
+clipped-short s h =
+    by (ltb (upto s) (length s)) (λ e. clipped-line s (ltb-true _ _ e))
+    (λ e. clipped-open s (omega (arith, upto-le s, ltb-false (upto s) (length s) e)) ∙ take-all 1033 s h)
+
+-- ---- moving to the front
+
+pub shift-step : (b : List ℕ) (from i : ℕ) → from + i < length b
+    → set (take i (drop from b) ++ drop i b) i (getD (take i (drop from b) ++ drop i b) (from + i) 0)
+    ≡ take (i + 1) (drop from b) ++ drop (i + 1) b
+shift-step b from i h =
+    let q : i < length (drop from b) = omega (arith, length-drop from b) in
+    let q′ : 0 + i < length b = omega arith in
+    let n : length (take i (drop from b)) ≡ i = length-take-le i (drop from b) (omega arith) in
+    let v : getD (take i (drop from b) ++ drop i b) (from + i) 0 ≡ getD (drop from b) i 0 =
+    ap (λ (k : ℕ). getD (take i (drop from b) ++ drop i b) k 0) (add-comm from i ∙ ap (λ (k : ℕ). k + from) (sym n))
+    ∙ getD-append-add (take i (drop from b)) (drop i b) from 0
+    ∙ getD-drop i b from 0
+    ∙ ap (λ (k : ℕ). getD b k 0) (add-comm i from)
+    ∙ sym (getD-drop from b i 0) in
+    rw v (simp (zero-add, ← add-one) at (paste-suc b 0 (drop from b) i 0 q′ q))
+
+-- ---- one step
+
+module _ (b b′ o o′ : List ℕ) (n m used put keep : ℕ) (em : m ≡ min (length b) n)
+    (eu : used ≡ usedOf (length o) (take m b)) (within : used ≤ length (take m b)) (fed : Laid o o′ put (writtenOf (length o) (take m b)))
+    (ek : keep ≡ length (clipped (take (m - used) (drop used b)))) (inside : keep ≤ length (take (m - used) (drop used b)))
+    (front : take keep (take (m - used) (drop used b)) ≡ clipped (take (m - used) (drop used b)))
+    (moved : b′ ≡ take keep (drop used b) ++ drop keep b) where
+  whole : take n b ≡ take m b
+  whole = rw (em, take-least b n)
+
+  m-length : length (take m b) ≡ m
+  m-length = length-take-le m b (omega arith)
+
+  rest : drop used (take m b) ≡ take (m - used) (drop used b)
+  rest = drop-take used m b
+
+  rest-length : length (take (m - used) (drop used b)) ≡ m - used
+  rest-length = sym (ap length rest) ∙ length-drop used (take m b) ∙ ap (λ (k : ℕ). k - used) m-length
+
+  keep-le : keep ≤ m - used
+  keep-le = omega (arith, inside, rest-length)
+
+  used-le : used ≤ m
+  used-le = omega (arith, within, m-length)
+
+  keep-length : keep ≤ length b
+  keep-length = omega (arith, keep-le, used-le, em)
+
+  kept : keptOf (length o) (take n b) ≡ take keep (drop used b)
+  unfolding keptOf
+  kept =
+      rw (whole, ← eu, rest)
+      (sym front ∙ take-take keep (m - used) (drop used b) keep-le)
+
+  front-size : length (take keep (drop used b)) ≡ keep
+  front-size = length-take-le keep (drop used b) (omega (arith, length-drop used b, keep-le, used-le, em))
+
+  b-length : length b′ ≡ length b
+  b-length =
+      ap length moved
+      ∙ omega (arith, length-append (take keep (drop used b)) (drop keep b), length-drop keep b, keep-length, front-size)
+
+  held : Laid b b′ keep (keptOf (length o) (take n b))
+  held =
+      record {
+        wrote = rw (kept, front-size) moved;
+        counted = rw kept (sym front-size);
+        within = omega (arith, b-length, keep-length);
+        size = b-length;
+        part = sym (length-take-le keep b′ (omega (arith, b-length, keep-length)));
+      }
+
+  moves : 1033 < length b → 16 ≤ length o → keep < length b
+  moves big room =
+      by (ltb (upto (take m b)) (length (take m b)))
+      (λ e.
+      omega (
+        arith,
+        used-line (length o) (take m b) (upto (take m b)) refl room (ltb-true _ _ e),
+        eu,
+        keep-le,
+        used-le,
+        em,
+      ))
+      (λ e.
+      let op : Open (take m b) = omega (arith, upto-le (take m b), ltb-false (upto (take m b)) (length (take m b)) e) in
+      let z : used ≡ 0 = eu ∙ used-none (length o) (take m b) (stops-open (length o) (take m b) op) in
+      let c : clipped (take (m - used) (drop used b)) ≡ take 1033 (take m b) =
+      ap clipped (sym rest ∙ ap (λ (k : ℕ). drop k (take m b)) z) ∙ clipped-open (take m b) op in
+      omega (arith, ek, ap length c, length-take 1033 (take m b)))
+
+  pub step-right : StepRight (take n b) b b′ o o′ keep put
+  step-right = record { written = rw whole fed; held = held; moves = moves }
+
+-- ---- a last line
+
+pub last-none : (room : ℕ) (s : List ℕ) → length s ≡ 0 → lastOf room s ≡ []
+unfolding lastOf pick
+last-none room s e = rw (lt-leb 1 (length s) (omega arith)) (both (leb 16 room))
+  where
+    both : (t : Bool) → pick (t && false) (lineText s) [] ≡ []
+    both true = refl
+    both false = refl
+
+pub last-full : (room : ℕ) (s : List ℕ) → room < 16 → lastOf room s ≡ []
+unfolding lastOf pick
+last-full room s h = rw (lt-leb 16 room h)
+
+pub last-line : (room : ℕ) (s : List ℕ) → 16 ≤ room → (length s ≡ 0 → ⊥) → lastOf room s ≡ lineText s
+unfolding lastOf pick
+last-line room s h n = rw (le-leb 16 room h, le-leb 1 (length s) (omega arith))
+
+-- nothing is laid
+pub laid-none : (o text : List ℕ) → text ≡ [] → Laid o o 0 text
+laid-none o text e = laid o o 0 text e (omega arith) refl refl
+
+pub laid-stored : (o o′ text : List ℕ) (r : ℕ) → 16 ≤ length o → Stored o o′ 0 r text 16 → Laid o o′ r text
+laid-stored o o′ text r h st =
+    let k : 0 + 16 ≤ length o = omega arith in
+    laid o o′ r text (sym (stored-front o o′ 0 r text 16 st k)) (omega (arith, st .short, st .size)) (st .size) (stored-behind o o′ 0 r text 16 st k)

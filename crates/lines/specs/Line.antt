@@ -1,0 +1,37 @@
+-- One line, its newline left out: 4 scheme bytes, space, two digits of term, space, content.
+use mathlib.Core.Bool.{Bool, _&&_}
+use mathlib.Core.List.{List}
+use Prim.Native.Nat.{ℕ, _+_, _*_, _-_}
+use Prim.Native.Char.{code}
+use lib.Dec.{leb, eqb}
+use lib.ListN.{length, take, drop, getD}
+use Rattle.ascii.specs.Pick.{pick}
+use Rattle.ascii.specs.Class.{isDigit}
+use Rattle.answer.specs.declared.record.Answer.{Answer}
+use Rattle.answer.specs.declared.reason.Reason.the-variants.{Line}
+use Rattle.answer.specs.declared.severity.Severity.the-variants.{NoSeverity}
+use Rattle.answer.specs.Answers.{refused}
+use Rattle.rules.specs.Check.{checkOf}
+
+abbrev pub space : ℕ
+space = code " "
+
+abbrev pub newline : ℕ
+newline = 10
+
+-- places counted from 0
+unfoldable pub headOk : List ℕ → Bool
+headOk s =
+    leb 8 (length s)
+    && ((eqb (getD s 4 0) space && isDigit (getD s 5 0))
+    && (isDigit (getD s 6 0) && eqb (getD s 7 0) space))
+
+unfoldable pub termOf : List ℕ → ℕ
+termOf s = 10 * (getD s 5 0 - code "0") + (getD s 6 0 - code "0")
+
+-- what is read of the content: one byte more than a rule may read
+unfoldable pub contentOf : List ℕ → List ℕ
+contentOf s = take 1025 (drop 8 s)
+
+unfoldable pub answerOf : List ℕ → Answer
+answerOf s = pick (headOk s) (checkOf (take 4 s) (termOf s) (contentOf s)) (refused 0 NoSeverity Line)

@@ -1,0 +1,29 @@
+-- The whole program: the output of a whole input.
+use mathlib.Core.Bool.{Bool, true}
+use mathlib.Core.List.{List, [], _∷_, _++_}
+use Prim.Native.Nat.{ℕ}
+use lib.Dec.{eqb}
+use Rattle.ascii.specs.Pick.{pick}
+use Rattle.lines.specs.Line.{newline}
+use Rattle.lines.specs.Text.{lineText}
+
+-- a byte in front of lines begins the first; where there is none, it is a line that no newline ends, and may count
+unfoldable pub inFront : Bool → ℕ → List (List ℕ) → List (List ℕ)
+inFront counts b [] = pick counts ((b ∷ []) ∷ []) []
+inFront counts b (l ∷ ls) = (b ∷ l) ∷ ls
+
+-- the lines of a text, without their newlines
+unfoldable pub split : Bool → List ℕ → List (List ℕ)
+split counts [] = []
+split counts (b ∷ s) = pick (eqb b newline) ([] ∷ split counts s) (inFront counts b (split counts s))
+
+-- a last line without newline counts if it has a byte
+abbrev pub linesOf : List ℕ → List (List ℕ)
+linesOf s = split true s
+
+unfoldable pub answersTo : List (List ℕ) → List ℕ
+answersTo [] = []
+answersTo (l ∷ ls) = lineText l ++ answersTo ls
+
+abbrev pub answers : List ℕ → List ℕ
+answers s = answersTo (linesOf s)

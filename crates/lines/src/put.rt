@@ -1,0 +1,66 @@
+// The text of an answer.
+ghost use Prim.Native.Nat.{_+_, _≤_, _<_};
+ghost use lib.ListN.{length};
+ghost use Rattle.lines.specs.Text.{decimal, field, textOf, lineText};
+ghost use Rattle.lines.specs.Window.{Stored};
+use super::line::answer_line;
+use answer::Answer;
+
+fn put_number(out: &mut [u8], at: usize, n: u32) -> usize
+    requires { ⌜ at + 3 ≤ length (now out) ⌝ }
+    requires { ⌜ n < 1000 ⌝ }
+    ensures { λ r. ⌜ Stored (now (out .entry)) (now (out .exit)) at r (decimal n) 3 ⌝ }
+{
+    if n < 10 {
+        out[at] = (48 + n) as u8;
+        return at + 1;
+    }
+    let low = (48 + n % 10) as u8;
+    let tens = n / 10;
+    let k = at + 1;
+    if tens < 10 {
+        out[at] = (48 + tens) as u8;
+        out[k] = low;
+        return k + 1;
+    }
+    let m = k + 1;
+    out[at] = (48 + tens / 10) as u8;
+    out[k] = (48 + tens % 10) as u8;
+    out[m] = low;
+    m + 1
+}
+
+// A number and the byte behind it.
+fn put_field(out: &mut [u8], at: usize, n: u32, behind: u8) -> usize
+    requires { ⌜ at + 4 ≤ length (now out) ⌝ }
+    requires { ⌜ n < 1000 ⌝ }
+    ensures { λ r. ⌜ Stored (now (out .entry)) (now (out .exit)) at r (field n behind) 4 ⌝ }
+{
+    let k = put_number(out, at, n);
+    out[k] = behind;
+    k + 1
+}
+
+fn put_answer(out: &mut [u8], at: usize, a: Answer) -> usize
+    requires { ⌜ at + 16 ≤ length (now out) ⌝ }
+    requires { ⌜ a .rule < 1000 ⌝ }
+    ensures { λ r. ⌜ Stored (now (out .entry)) (now (out .exit)) at r (textOf a) 16 ⌝ }
+{
+    let verdict = a.verdict;
+    let rule = a.rule;
+    let severity = a.severity;
+    let reason = a.reason;
+    let k = put_field(out, at, verdict.number(), b' ');
+    let m = put_field(out, k, rule, b' ');
+    let n = put_field(out, m, severity.number(), b' ');
+    put_field(out, n, reason.number(), b'\n')
+}
+
+// Stores the answer to a line from `at` on, and says where its text ends.
+pub fn put_line(line: &[u8], out: &mut [u8], at: usize) -> usize
+    requires { ⌜ at + 16 ≤ length (now out) ⌝ }
+    ensures { λ r. ⌜ Stored (now (out .entry)) (now (out .exit)) at r (lineText (now (line .entry))) 16 ⌝ }
+{
+    let a = answer_line(line);
+    put_answer(out, at, a)
+}

@@ -1,0 +1,111 @@
+// A stream of lines, answered window by window.
+ghost use mathlib.Core.Path.{_≡_};
+ghost use mathlib.Core.List.{_++_};
+ghost use Prim.Native.Nat.{_+_, _≤_};
+ghost use lib.ListN.{length, take, drop};
+ghost use Rattle.lines.specs.Window.{upto, usedOf, writtenOf, clipped, lastOf, Laid, StepRight};
+use super::line::least;
+use super::put::put_line;
+
+// How many bytes of s stand before its first newline; all where there is none.
+fn line_len(s: &[u8]) -> usize
+    ensures within { λ r. ⌜ r ≤ length (now (s .entry)) ⌝ }
+    ensures exact { λ r. ⌜ r ≡ upto (now (s .entry)) ⌝ }
+{
+    let mut i = 0;
+    while i < s.len() {
+        if s[i] == b'\n' {
+            return i;
+        }
+        i += 1;
+    }
+    i
+}
+
+struct Fed {
+    used: usize,
+    put: usize,
+}
+
+// Answers the whole lines of s, one after the other, as long as out has 16 bytes left.
+fn feed(s: &[u8], out: &mut [u8]) -> Fed
+    ensures used { λ r. ⌜ r .used ≡ usedOf (length (now (out .entry))) (now (s .entry)) ⌝ }
+    ensures within { λ r. ⌜ r .used ≤ length (now (s .entry)) ⌝ }
+    ensures laid { λ r. ⌜ Laid (now (out .entry)) (now (out .exit)) (r .put) (writtenOf (length (now (out .entry))) (now (s .entry))) ⌝ }
+{
+    let mut used = 0;
+    let mut put = 0;
+    while used < s.len() {
+        if out.len() - put < 16 {
+            return Fed { used, put };
+        }
+        let rest = &s[used..];
+        let n = line_len(rest);
+        if n == rest.len() {
+            return Fed { used, put };
+        }
+        put = put_line(&rest[..n], out, put);
+        used = used + n + 1;
+    }
+    Fed { used, put }
+}
+
+// How much of a rest is kept: of a line that no newline ends yet, the 1,033 bytes that are read.
+fn keep_len(rest: &[u8]) -> usize
+    ensures exact { λ r. ⌜ r ≡ length (clipped (now (rest .entry))) ⌝ }
+    ensures within { λ r. ⌜ r ≤ length (now (rest .entry)) ⌝ }
+    ensures front { λ r. ⌜ take r (now (rest .entry)) ≡ clipped (now (rest .entry)) ⌝ }
+{
+    let n = rest.len();
+    if n <= 1033 {
+        return n;
+    }
+    if line_len(rest) == n {
+        return 1033;
+    }
+    n
+}
+
+// Moves the n bytes from `from` on to the front.
+fn shift(buf: &mut [u8], from: usize, n: usize)
+    requires { ⌜ from + n ≤ length (now buf) ⌝ }
+    ensures { λ _. ⌜ now (buf .exit) ≡ take n (drop from (now (buf .entry))) ++ drop n (now (buf .entry)) ⌝ }
+{
+    let mut i = 0;
+    while i < n {
+        buf[i] = buf[from + i];
+        i += 1;
+    }
+}
+
+pub struct Stepped {
+    pub kept: usize,
+    pub put: usize,
+}
+
+// One turn over a window: buf[..n] is input that is not answered yet. Stores the answers to its whole lines at the start of out,
+// and moves what is kept of the rest to the start of buf.
+pub fn step(buf: &mut [u8], n: usize, out: &mut [u8]) -> Stepped
+    ensures { λ r. ⌜ StepRight (take n (now (buf .entry))) (now (buf .entry)) (now (buf .exit)) (now (out .entry)) (now (out .exit)) (r .kept) (r .put) ⌝ }
+{
+    let m = least(buf.len(), n);
+    let fed = feed(&buf[..m], out);
+    let used = fed.used;
+    let put = fed.put;
+    let keep = keep_len(&buf[used..m]);
+    shift(buf, used, keep);
+    Stepped { kept: keep, put }
+}
+
+// The answer to a last line that no newline ends, stored at the start of out.
+pub fn last(s: &[u8], out: &mut [u8]) -> usize
+    ensures { λ r. ⌜ Laid (now (out .entry)) (now (out .exit)) r (lastOf (length (now (out .entry))) (now (s .entry))) ⌝ }
+{
+    if s.len() == 0 {
+        return 0;
+    }
+    if out.len() < 16 {
+        return 0;
+    }
+    put_line(s, out, 0)
+}
