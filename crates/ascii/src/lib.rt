@@ -50,7 +50,7 @@ pub fn same_bytes(a: &[u8], b: &[u8]) -> bool
     if a.len() != b.len() {
         return false;
     }
-    let mut i: usize = 0;
+    let mut i = 0;
     while i < a.len() {
         if a[i] != b[i] {
             return false;
