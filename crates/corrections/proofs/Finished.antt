@@ -15,11 +15,12 @@ use Rattle.forms.specs.Form.{Form, fits}
 use Rattle.text.specs.Answer.{readableOf, normalText, textOf}
 use Rattle.rules.specs.declared.rule.Rule.{Rule}
 use Rattle.rules.specs.Finding.{accepts}
+use Rattle.corrections.specs.declared.done.Done.{Done}
 use Rattle.corrections.specs.declared.five.Five.{Five}
 use Rattle.corrections.specs.declared.five.Known.{Known}
 use Rattle.corrections.specs.declared.five.Known.the-variants.{One, Other}
 use Rattle.corrections.specs.Five.{ruleOf, fiveOf}
-use Rattle.corrections.specs.Outcome.{Outcome, refusal, unless, forFive, formReason, roomReason}
+use Rattle.corrections.specs.Outcome.{Outcome, Works, refusal, unless, forFive, formReason, roomReason}
 use Rattle.corrections.specs.Completing.{bodyForm, noFigure, completedBody, completedBy, completing}
 use Rattle.corrections.specs.Corrections.{corrections}
 use Rattle.corrections.specs.Listing.{numberForm, goodReason, roomFor, listedNumber, listedText, listedBy, listing}
@@ -28,6 +29,10 @@ use Rattle.corrections.proofs.Outcomes.{unless-none, room-enough}
 use Rattle.corrections.proofs.Completes.{completed}
 use Rattle.corrections.proofs.Rows.{listed-all}
 use Rattle.corrections.proofs.Theorems.{whole}
+
+-- the promise of a completion or a listing has no second answer, and leaves no second area
+pub one-answer : (o : Outcome) (area : List ℕ) (r q : Done) (x y : List ℕ) → Works o area r x → Works o area q y → (r ≡ q) × (x ≡ y)
+one-answer o area r q x y v w = (v .says ∙ sym (w .says), v .now ∙ sym (w .now))
 
 -- ---- no reason is given
 

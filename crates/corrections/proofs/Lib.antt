@@ -1,11 +1,12 @@
--- Laws of completing and of correction lists.
+-- Laws of completing and listing: what the code's total says (Totals, Checks, Exact), which figure completes a body (Completes), lists
+-- made by counting (Areas, Members), one digit for each place (Fixes), the list is whole (Theorems), what is done (Finished), examples (Cases).
 mod Schemes
 mod Outcomes
-pub mod Totals
-pub mod Checks
+mod Totals
+mod Checks
 pub mod Completes
-pub mod Areas
-pub mod Members
+mod Areas
+mod Members
 pub mod Exact
 pub mod Fixes
 mod Rows

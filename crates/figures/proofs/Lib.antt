@@ -1,5 +1,6 @@
 -- Laws of check figures: what a finding shows (Judging), how a total changes (Shift), each rule's one total (Links), what is detected
--- (Detect), which figure completes a body (Completing), how large totals are (Range), document 01's examples (Cases).
+-- (Detect), which figure completes a body (Completing), how large totals are (Range), document 01's examples (Cases); and of totals from
+-- the left (Steps), parts of texts of digits (Digits), totals of 0 (Zeros).
 pub mod Steps
 pub mod Judging
 pub mod Digits
