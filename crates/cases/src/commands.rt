@@ -1,20 +1,18 @@
 // The commands, by their first letter: what each calls, and how its answer is written.
 use super::escape::show;
 use super::escape::unescape;
+use super::show::number;
 use super::split::behind;
 use super::split::decimal;
 use super::split::word_end;
+use super::work::show_work;
 use answer::Answer;
 use figures::Finding;
 use forms::Fault;
+use guard::Withdrawal;
 use libc::STDOUT_FILENO;
 use text::Step;
 use text::Text;
-
-fn number(n: u64) {
-    io::write_all(STDOUT_FILENO, b" ");
-    io::print_decimal(STDOUT_FILENO, n);
-}
 
 // The first n bytes of an area, and a word if anything but zeros stands after them.
 fn show_area(area: &[u8], n: usize) {
@@ -124,6 +122,30 @@ fn show_figure(field: &[u8]) {
     }
 }
 
+// A strict GLN: its scheme and its content.
+fn show_gln(field: &[u8]) {
+    let end = word_end(field, 0);
+    let start = behind(field, end);
+    let n = field.len();
+    show_answer(guard::eas_value(&field[0..end], &field[start..n]));
+}
+
+fn show_code(code: &[u8]) {
+    match guard::withdrawn(code) {
+        Withdrawal::NotWithdrawn => {
+            io::write_all(STDOUT_FILENO, b" not withdrawn");
+        }
+        Withdrawal::NoSuccessor => {
+            io::write_all(STDOUT_FILENO, b" withdrawn");
+        }
+        Withdrawal::Successor(s) => {
+            let four = [s.a, s.b, s.c, s.d];
+            io::write_all(STDOUT_FILENO, b" withdrawn, use ");
+            io::write_all(STDOUT_FILENO, &four);
+        }
+    }
+}
+
 // Which function a command names.
 fn call(command: u8, content: &[u8]) {
     if command == b'n' {
@@ -154,7 +176,15 @@ fn call(command: u8, content: &[u8]) {
         show_answer(accounts::is_valid_creditor_identifier(content));
         return;
     }
-    io::write_all(STDOUT_FILENO, b" unknown");
+    if command == b'g' {
+        show_gln(content);
+        return;
+    }
+    if command == b'w' {
+        show_code(content);
+        return;
+    }
+    show_work(command, content);
 }
 
 pub fn run(line: &[u8]) {

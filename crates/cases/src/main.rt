@@ -5,7 +5,9 @@ ghost use lib.ListN.{length};
 
 mod commands;
 mod escape;
+mod show;
 mod split;
+mod work;
 
 use libc::STDIN_FILENO;
 use libc::STDOUT_FILENO;
