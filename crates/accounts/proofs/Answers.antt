@@ -1,21 +1,19 @@
 -- The answers by what the code found. Assumes nothing.
 use mathlib.Core.Path.{_≡_, sym, _∙_, ap}
-use mathlib.Core.Bool.{Bool, true, false}
+use mathlib.Core.Bool.{true, false}
 use mathlib.Core.List.{List}
-use Prim.Native.Nat.{ℕ, _-_, _≤_}
-use native.Mathlib.Omega.{arith}
+use Prim.Native.Nat.{ℕ}
 use borrow.Author.Tests.{eq-eqb, ne-eqb}
-use lib.ListN.{length, take}
+use lib.ListN.{length}
 use Rattle.ascii.specs.Pick.{pick}
-use Rattle.answer.specs.declared.record.Answer.{Answer}
 use Rattle.answer.specs.declared.reason.Reason.{Reason}
 use Rattle.answer.specs.declared.reason.Reason.the-variants.{NoReason, Form, Check}
 use Rattle.answer.specs.declared.severity.Severity.the-variants.{NoSeverity}
-use Rattle.answer.specs.Answers.{none, first, judged}
+use Rattle.answer.specs.Answers.{none, judged}
 use Rattle.answer.proofs.Laws.{first-none, first-given}
 use Rattle.text.specs.declared.area.Text.{Text}
 use Rattle.text.specs.Answer.{strippedText, textOf}
-use Rattle.text.proofs.Laws.{strip-part}
+use Rattle.text.proofs.Laws.{strip-area}
 use Rattle.forms.specs.declared.form.Fault.{Fault}
 use Rattle.forms.specs.Form.{Form as FormOf, faultOf, isFit, fits}
 use Rattle.forms.specs.Table.{iban, creditor}
@@ -51,9 +49,9 @@ module _ (s : List ℕ) where
 
 -- ---- a content
 
--- the text lies within its area
-pub part-fits : (s : List ℕ) (t : Text) → t ≡ strippedText s → t .len ≤ length (t .bytes)
-part-fits s t e = rw e (strip-part s)
+-- its area is whole
+pub area-whole : (s : List ℕ) (t : Text) → t ≡ strippedText s → 1024 ≡ length (t .bytes)
+area-whole s t e = rw e (sym (strip-area s))
 
 module _ (rule : List ℕ → Reason) (s : List ℕ) (t : Text) (e : t ≡ strippedText s) where
   -- a content that can't be read
@@ -61,10 +59,7 @@ module _ (rule : List ℕ → Reason) (s : List ℕ) (t : Text) (e : t ≡ strip
   unfolding ofStripped
   unreadable h = rw (← e) (ap (judged 0 NoSeverity) (sym (first-given (t .reason) (rule (textOf t)) h)))
 
-  -- a content that is read: its text is judged, which the code lends as bytes 0 to the length
-  pub readable : (x : Reason) → none (t .reason) ≡ true → x ≡ rule (take (t .len - 0) (t .bytes)) → judged 0 NoSeverity x ≡ ofStripped rule s
+  -- a content that is read: its text is judged
+  pub readable : (x : Reason) → none (t .reason) ≡ true → x ≡ rule (textOf t) → judged 0 NoSeverity x ≡ ofStripped rule s
   unfolding ofStripped
-  readable x h f =
-      let l : t .len - 0 ≡ t .len = omega arith in
-      rw (← e)
-      (ap (judged 0 NoSeverity) (f ∙ ap (λ n. rule (take n (t .bytes))) l ∙ sym (first-none (t .reason) (rule (textOf t)) h)))
+  readable x h f = rw (← e) (ap (judged 0 NoSeverity) (f ∙ sym (first-none (t .reason) (rule (textOf t)) h)))

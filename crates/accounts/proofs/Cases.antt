@@ -5,12 +5,12 @@ use Prim.Native.Nat.{ℕ}
 use lib.ListN.{replicate}
 use Rattle.ascii.specs.Pick.{pick}
 use Rattle.ascii.specs.Written.{bytes}
-use Rattle.ascii.specs.Class.{within, isDigit, isLetter, isPlain}
+use Rattle.ascii.specs.Class.{within, isDigit, isLetter, isPlain, among}
 use Rattle.answer.specs.declared.record.Answer.{Answer}
 use Rattle.answer.specs.Numbers.{verdictNumber, severityNumber, reasonNumber}
 use Rattle.answer.specs.Answers.{none, first, judged}
 use Rattle.text.specs.Utf8.{two, three, four, stepOf}
-use Rattle.text.specs.White.{among, whitePoints, isWhite}
+use Rattle.text.specs.White.{whitePoints, isWhite}
 use Rattle.text.specs.Content.{contentFrom, contentOf, cells, cellsOf}
 use Rattle.text.specs.Words.{parts, words, closed, stripped}
 use Rattle.text.specs.Answer.{padded, kept, refusal, answer, strippedText}

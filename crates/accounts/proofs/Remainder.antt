@@ -1,6 +1,5 @@
 -- The number of a text, and the remainder that goes over it step by step. Assumes nothing.
 use mathlib.Core.Path.{_≡_, refl, _∙_, sym, ap}
-use mathlib.Core.Bool.{true, false}
 use mathlib.Core.List.{List, [], _∷_, _++_, append-assoc}
 use Prim.Native.Nat.{ℕ, suc, _+_, _-_, _*_, _/_, _%_, _^_, _≤_, _<_}
 use native.Mathlib.Nat.{pow-suc, div-add-mod', mul-add-mod-self-right}
@@ -101,8 +100,11 @@ parts from s =
 rest : (k : ℕ) (s : List ℕ) → take (length s - k) (drop k s) ≡ drop k s
 rest k s = take-all (length s - k) (drop k s) (omega (arith, length-drop k s))
 
--- the same, as the code lends the parts
-pub leaves : (from : ℕ) (s : List ℕ) (x y : ℕ) → x ≡ after 0 (spell (take (length s - from) (drop from s)))
-    → y ≡ after x (spell (take 4 s)) → y ≡ remainder from s
+-- the same, as the code lends the parts: x and y leave what they must
+pub leaves : (from : ℕ) (s : List ℕ) (x y : ℕ) → x % 97 ≡ after 0 (spell (take (length s - from) (drop from s)))
+    → y % 97 ≡ after x (spell (take 4 s)) → y % 97 ≡ remainder from s
 leaves from s x y ex ey =
-    ey ∙ ap (λ n. after n (spell (take 4 s))) (ex ∙ ap (λ t. after 0 (spell t)) (rest from s)) ∙ sym (parts from s)
+    ey
+    ∙ sym (after-mod x (spell (take 4 s)))
+    ∙ ap (λ n. after n (spell (take 4 s))) (ex ∙ ap (λ t. after 0 (spell t)) (rest from s))
+    ∙ sym (parts from s)

@@ -9,7 +9,8 @@ use answer::judged;
 use forms::Fault;
 use forms::creditor_form;
 use forms::iban_form;
-use text::strip;
+use text::first_bytes;
+use text::strip_into;
 
 // What is wrong with a stripped text as an IBAN.
 pub fn iban_text(text: &[u8]) -> Reason
@@ -41,12 +42,12 @@ pub fn creditor_text(text: &[u8]) -> Reason
 pub fn is_valid_iban_checksum(content: &[u8]) -> Answer
     ensures { λ r. ⌜ r ≡ ibanAnswer (now (content .entry)) ⌝ }
 {
-    let text = strip(content);
-    let reason = text.reason;
+    let mut area = [0u8; 1024];
+    let kept = strip_into(content, &mut area);
+    let reason = kept.reason;
     if reason.number() == 0 {
-        let n = text.len;
-        let bytes = text.bytes;
-        return judged(0, Severity::NoSeverity, iban_text(&bytes[0..n]));
+        let n = kept.len;
+        return judged(0, Severity::NoSeverity, iban_text(first_bytes(&area, n)));
     }
     judged(0, Severity::NoSeverity, reason)
 }
@@ -54,12 +55,16 @@ pub fn is_valid_iban_checksum(content: &[u8]) -> Answer
 pub fn is_valid_creditor_identifier(content: &[u8]) -> Answer
     ensures { λ r. ⌜ r ≡ creditorAnswer (now (content .entry)) ⌝ }
 {
-    let text = strip(content);
-    let reason = text.reason;
+    let mut area = [0u8; 1024];
+    let kept = strip_into(content, &mut area);
+    let reason = kept.reason;
     if reason.number() == 0 {
-        let n = text.len;
-        let bytes = text.bytes;
-        return judged(0, Severity::NoSeverity, creditor_text(&bytes[0..n]));
+        let n = kept.len;
+        return judged(
+            0,
+            Severity::NoSeverity,
+            creditor_text(first_bytes(&area, n)),
+        );
     }
     judged(0, Severity::NoSeverity, reason)
 }

@@ -45,10 +45,10 @@ fn step(acc: u64, b: u8) -> u64
     x * 100 + v
 }
 
-// What the digits of `start`, followed by those of the text, leave.
+// A number that leaves what the digits of `start`, followed by those of the text, leave.
 fn leave(start: u64, text: &[u8]) -> u64
     requires { ⌜ all isPlain (now text) ≡ true ⌝ }
-    ensures { λ r. ⌜ r ≡ after start (spell (now (text .entry))) ⌝ }
+    ensures { λ r. ⌜ r % 97 ≡ after start (spell (now (text .entry))) ⌝ }
 {
     let mut acc = start;
     let mut i: usize = 0;
@@ -56,7 +56,7 @@ fn leave(start: u64, text: &[u8]) -> u64
         acc = step(acc, text[i]);
         i += 1;
     }
-    acc % 97
+    acc
 }
 
 // What the text's number leaves, where the part that is read first begins at `from`.
@@ -66,5 +66,5 @@ pub(crate) fn remainder(text: &[u8], from: usize) -> u64
 {
     let n = text.len();
     let a = leave(0, &text[from..n]);
-    leave(a, &text[0..4])
+    leave(a, &text[0..4]) % 97
 }

@@ -1,3 +1,4 @@
 -- Laws that every crate above may cite.
 pub mod Tests
 pub mod Class
+pub mod Same

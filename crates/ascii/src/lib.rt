@@ -1,6 +1,7 @@
 // The classes of a byte or a code point: ASCII digits and letters, and lists of them.
 ghost use mathlib.Core.Path.{_≡_};
 ghost use Rattle.ascii.specs.Class.{isDigit, isLetter, isPlain, among};
+ghost use Rattle.ascii.specs.Written.{sameBytes};
 
 // A byte as a code point.
 pub fn wide(b: u8) -> u32
@@ -12,25 +13,13 @@ pub fn wide(b: u8) -> u32
 pub fn is_digit(c: u32) -> bool
     ensures { λ r. ⌜ r ≡ isDigit c ⌝ }
 {
-    if c < 48 {
-        return false;
-    }
-    c <= 57
+    (48 <= c) & (c <= 57)
 }
 
 pub fn is_letter(c: u32) -> bool
     ensures { λ r. ⌜ r ≡ isLetter c ⌝ }
 {
-    if c < 65 {
-        return false;
-    }
-    if c <= 90 {
-        return true;
-    }
-    if c < 97 {
-        return false;
-    }
-    c <= 122
+    ((65 <= c) & (c <= 90)) | ((97 <= c) & (c <= 122))
 }
 
 // A letter or a digit.
@@ -52,4 +41,21 @@ pub fn among(c: u32, list: &[u32]) -> bool
         i += 1;
     }
     false
+}
+
+// Whether two texts are the same, byte for byte.
+pub fn same_bytes(a: &[u8], b: &[u8]) -> bool
+    ensures { λ r. ⌜ r ≡ sameBytes (now (a .entry)) (now (b .entry)) ⌝ }
+{
+    if a.len() != b.len() {
+        return false;
+    }
+    let mut i: usize = 0;
+    while i < a.len() {
+        if a[i] != b[i] {
+            return false;
+        }
+        i += 1;
+    }
+    true
 }

@@ -1,8 +1,12 @@
 // The commands, by their first letter: what each calls, and how its answer is written.
-ghost use Prim.Native.Nat.{_≤_};
-ghost use lib.ListN.{length};
 use super::escape::show;
 use super::escape::unescape;
+use super::split::behind;
+use super::split::decimal;
+use super::split::word_end;
+use answer::Answer;
+use figures::Finding;
+use forms::Fault;
 use libc::STDOUT_FILENO;
 use text::Step;
 use text::Text;
@@ -62,6 +66,64 @@ fn show_steps(content: &[u8]) {
     show_step(content, at);
 }
 
+fn show_answer(a: Answer) {
+    let verdict = a.verdict;
+    let severity = a.severity;
+    let reason = a.reason;
+    number(verdict.number() as u64);
+    number(a.rule as u64);
+    number(severity.number() as u64);
+    number(reason.number() as u64);
+}
+
+// A field: its scheme, its term and its content, parted by spaces.
+fn show_check(field: &[u8]) {
+    let scheme_end = word_end(field, 0);
+    let term_start = behind(field, scheme_end);
+    let term_end = word_end(field, term_start);
+    let content = behind(field, term_end);
+    let n = field.len();
+    let term = decimal(&field[term_start..term_end]);
+    show_answer(rules::check(&field[0..scheme_end], term, &field[content..n]));
+}
+
+fn show_fault(fault: Fault) {
+    match fault {
+        Fault::Fits => {}
+        Fault::Length => {
+            io::write_all(STDOUT_FILENO, b" length");
+        }
+        Fault::At(place) => {
+            io::write_all(STDOUT_FILENO, b" at");
+            number(place as u64);
+        }
+    }
+}
+
+fn figure(rule: u32, text: &[u8]) -> Finding {
+    match rule {
+        40 => figures::gln(text),
+        41 => figures::mod11(text),
+        43 => figures::mod97_0208(text),
+        47 => figures::partita_iva(text),
+        49 => figures::se_orgnr(text),
+        _ => figures::abn(text),
+    }
+}
+
+// The number of a rule with a check figure, and a text: the reason, and what is wrong with the form.
+fn show_figure(field: &[u8]) {
+    let rule_end = word_end(field, 0);
+    let start = behind(field, rule_end);
+    let n = field.len();
+    let found = figure(decimal(&field[0..rule_end]), &field[start..n]);
+    let reason = figures::reason(found);
+    number(reason.number() as u64);
+    if let Finding::Unfit(fault) = found {
+        show_fault(fault);
+    }
+}
+
 // Which function a command names.
 fn call(command: u8, content: &[u8]) {
     if command == b'n' {
@@ -76,21 +138,23 @@ fn call(command: u8, content: &[u8]) {
         show_steps(content);
         return;
     }
-    io::write_all(STDOUT_FILENO, b" unknown");
-}
-
-// The place behind the first space, or the end.
-fn behind_space(line: &[u8]) -> usize
-    ensures { λ r. ⌜ r ≤ length (now (line .entry)) ⌝ }
-{
-    let mut i: usize = 0;
-    while i < line.len() {
-        if line[i] == b' ' {
-            return i + 1;
-        }
-        i += 1;
+    if command == b'c' {
+        show_check(content);
+        return;
     }
-    i
+    if command == b'f' {
+        show_figure(content);
+        return;
+    }
+    if command == b'i' {
+        show_answer(accounts::is_valid_iban_checksum(content));
+        return;
+    }
+    if command == b'r' {
+        show_answer(accounts::is_valid_creditor_identifier(content));
+        return;
+    }
+    io::write_all(STDOUT_FILENO, b" unknown");
 }
 
 pub fn run(line: &[u8]) {
@@ -98,7 +162,7 @@ pub fn run(line: &[u8]) {
         return;
     }
     let mut area = [0u8; 2048];
-    let start = behind_space(line);
+    let start = behind(line, word_end(line, 0));
     let n = unescape(&line[start..], &mut area);
     call(line[0], &area[0..n]);
 }

@@ -1,9 +1,11 @@
 // Runs the examples of standard input: each line is a command, a space and a content; it is written again with its answer behind it.
+ghost use mathlib.Core.Path.{_≡_};
 ghost use Prim.Native.Nat.{_≤_};
 ghost use lib.ListN.{length};
 
 mod commands;
 mod escape;
+mod split;
 
 use libc::STDIN_FILENO;
 use libc::STDOUT_FILENO;
@@ -36,8 +38,15 @@ fn run_all(s: &[u8]) {
     }
 }
 
+// Room for all examples. The length in the promise is what lending the array asks for.
+fn room() -> [u8; 262144]
+    ensures { λ r. ⌜ 262144 ≡ length r ⌝ }
+{
+    [0; 262144]
+}
+
 fn main() {
-    let mut buf = io::large_buffer();
+    let mut buf = room();
     let n = io::read_full(STDIN_FILENO, &mut buf);
     run_all(&buf[..n]);
 }

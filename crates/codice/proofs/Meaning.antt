@@ -18,7 +18,7 @@ use Rattle.forms.specs.declared.form.Fault.the-variants.{Length}
 use Rattle.forms.specs.Form.{isFit}
 use Rattle.forms.proofs.Follows.{fit-first}
 use Rattle.codice.specs.Integer.{isEmpty, past, trimEnd, isSign, unsigned, someDigits, integerText}
-use Rattle.codice.specs.Codice.{Group, part, person, company, places, failing, codiceOf, codiceFault}
+use Rattle.codice.specs.Codice.{Group, part, groupsOf16, groupsOf11, places, failing, codiceOf, codiceFault}
 use Rattle.codice.specs.Meaning.{passes, isCodice}
 use Rattle.codice.proofs.Laws.{and-right}
 use Rattle.codice.proofs.Trim.{digit-dark, digit-unsigned, some-first, integer-read}
@@ -32,15 +32,15 @@ fit-passes (g ∷ gs) cs ats =
     ∙ ap (λ (x : Bool). g .test (part g cs) && x) (fit-passes gs cs ats)
 
 -- 11 points are one group
-whole : (cs : List ℕ) → length cs ≡ 11 → passes company cs ≡ integerText cs
+whole : (cs : List ℕ) → length cs ≡ 11 → passes groupsOf11 cs ≡ integerText cs
 unfolding passes
 whole cs h = let l : length cs ≤ 11 = omega arith in rw (take-all 11 cs l) (and-right (integerText cs))
 
 by-count : (cs ats : List ℕ) (t u : Bool) → eqb (length cs) 11 ≡ u
-    → isFit (pick t (failing person cs ats) (pick u (failing company cs ats) Length)) ≡ pick t (passes person cs) (u && integerText cs)
+    → isFit (pick t (failing groupsOf16 cs ats) (pick u (failing groupsOf11 cs ats) Length)) ≡ pick t (passes groupsOf16 cs) (u && integerText cs)
 unfolding pick
-by-count cs ats true u f = fit-passes person cs ats
-by-count cs ats false true f = fit-passes company cs ats ∙ whole cs (eqb-true (length cs) 11 f)
+by-count cs ats true u f = fit-passes groupsOf16 cs ats
+by-count cs ats false true f = fit-passes groupsOf11 cs ats ∙ whole cs (eqb-true (length cs) 11 f)
 by-count cs ats false false f = refl
 
 -- a text fits exactly when it is well-formed and its code points are a codice fiscale

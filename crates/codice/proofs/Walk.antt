@@ -17,7 +17,7 @@ use Rattle.text.specs.Content.{Piece, Content, refused, content, withFirst, con
 use Rattle.text.specs.Neat.{codes}
 use Rattle.text.proofs.Points.{rest, point-fits, at-refused, at-last, unroll-list}
 use Rattle.codice.specs.Integer.{integerText}
-use Rattle.codice.specs.Codice.{places, person, failing, codiceOf, codiceFault}
+use Rattle.codice.specs.Codice.{places, groupsOf16, failing, codiceOf, codiceFault}
 use Rattle.codice.specs.Points.{Stand}
 
 -- points in front of those that are left
@@ -135,7 +135,7 @@ module _ (s cs ats : List ℕ) (n : ℕ) (t : Stand s cs ats n) where
       let b = t .room in
       counted (t .points) cs n (omega arith) (t .number)
 
-  pub sixteen : n ≡ 16 → codiceFault s ≡ failing person cs ats
+  pub sixteen : n ≡ 16 → codiceFault s ≡ failing groupsOf16 cs ats
   unfolding codiceFault codiceOf pick
   sixteen h =
       let a : length cs ≤ n = let b = t .room in omega arith in

@@ -35,8 +35,8 @@ abbrev pub anything : List ℕ → Bool
 anything cs = true
 
 -- the groups of 16 points
-abbrev pub person : List Group
-person =
+abbrev pub groupsOf16 : List Group
+groupsOf16 =
     group 0 5 letters
     ∷ group 6 7 integerText
     ∷ group 8 8 letters
@@ -47,8 +47,8 @@ person =
     ∷ []
 
 -- the one group of 11
-abbrev pub company : List Group
-company = group 0 10 integerText ∷ []
+abbrev pub groupsOf11 : List Group
+groupsOf11 = group 0 10 integerText ∷ []
 
 -- the places of the points' first bytes
 abbrev pub places : List Piece → List ℕ
@@ -62,8 +62,8 @@ failing (g ∷ gs) cs ats = pick (g .test (part g cs)) (failing gs cs ats) (At (
 unfoldable pub codiceOf : Content → Fault
 codiceOf refused = Length
 codiceOf (content ps) =
-    pick (eqb (length ps) 16) (failing person (codes ps) (places ps))
-    (pick (eqb (length ps) 11) (failing company (codes ps) (places ps))
+    pick (eqb (length ps) 16) (failing groupsOf16 (codes ps) (places ps))
+    (pick (eqb (length ps) 11) (failing groupsOf11 (codes ps) (places ps))
     Length)
 
 -- what is wrong with a text: how many code points it has, or the place of the first group that fails

@@ -1,5 +1,5 @@
 -- A text of rule 47's form is 13 bytes long, with digits from the third on. Assumes nothing.
-use mathlib.Core.Path.{_≡_, ap}
+use mathlib.Core.Path.{_≡_}
 use mathlib.Core.Bool.{Bool, true, false}
 use mathlib.Core.List.{List}
 use Prim.Native.Nat.{ℕ}
@@ -9,7 +9,7 @@ use lib.ListN.{length, drop, getD}
 use Rattle.ascii.specs.Pick.{pick}
 use Rattle.ascii.specs.Class.{isDigit, all}
 use Rattle.forms.specs.Form.{fits, faultOf}
-use Rattle.forms.specs.Table.{form, italianOf}
+use Rattle.forms.specs.Table.{italianOf}
 use Rattle.forms.specs.declared.form.Fault.the-variants.{Fits}
 use Rattle.forms.proofs.Meaning.{fault-fits}
 use Rattle.forms.proofs.Named.{headed, upper, lower}

@@ -1,7 +1,14 @@
--- Laws of check figures.
-mod Steps
-mod Judging
-mod Digits
-mod Zeros
+-- Laws of check figures: what a finding shows (Judging), how a total changes (Shift), each rule's one total (Links), what is detected
+-- (Detect), which figure completes a body (Completing), how large totals are (Range), document 01's examples (Cases).
+pub mod Steps
+pub mod Judging
+pub mod Digits
+pub mod Zeros
 mod Italian
 mod Signed
+pub mod Shift
+pub mod Links
+pub mod Detect
+pub mod Completing
+pub mod Range
+pub mod Cases

@@ -1,15 +1,15 @@
 -- With no weight 0 only zeros add up to 0. Assumes nothing.
-use mathlib.Core.Path.{_≡_, refl, _∙_, sym, ap}
+use mathlib.Core.Path.{_≡_, refl, _∙_, ap}
 use mathlib.Core.Bool.{Bool, true, false, _&&_}
 use mathlib.Core.List.{List, [], _∷_}
-use Prim.Native.Nat.{ℕ, _+_, _-_, _*_, _%_, _≤_, _<_}
+use Prim.Native.Nat.{ℕ, _-_, _*_, _%_, _≤_}
 use native.Mathlib.Nat.{mul-le-mul-right}
 use native.Mathlib.Omega.{arith}
 use borrow.Author.Tests.{eqb-true, eqb-false, ne-eqb, leb-true}
 use lib.Dec.{eqb, leb}
 use lib.ListN.{length, getD}
 use Rattle.ascii.specs.Class.{isDigit, all}
-use Rattle.ascii.proofs.Tests.{below, below-at}
+use Rattle.ascii.proofs.Tests.{below-at}
 use Rattle.ascii.proofs.Class.{digit-bounds, all-first, all-rest}
 use Rattle.figures.specs.Total.{total}
 use Rattle.figures.specs.Figures.{adds, weightAt, totalBy, figure41}

@@ -7,7 +7,7 @@ use lib.ListN.{length, getD}
 use Rattle.figures.specs.Total.{total}
 
 pub record Figure : Type 0 where
-  -- whether a product of two digits counts as the sum of them
+  -- whether a product counts by the sum of its digits
   pub fold : Bool
   -- from the right, over and over
   pub weights : List ℕ
@@ -44,6 +44,10 @@ figure40 = figure false (1 ∷ 3 ∷ []) 10 0
 abbrev pub figure41 : Figure
 figure41 = figure false (1 ∷ 2 ∷ 3 ∷ 4 ∷ 5 ∷ 6 ∷ 7 ∷ 2 ∷ 3 ∷ []) 11 0
 
+-- 43: of the numbers that it accepts, the first eight and the last two add up to a multiple of 97
+abbrev pub figure43 : Figure
+figure43 = figure false (1 ∷ 10 ∷ 1 ∷ 10 ∷ 100 ∷ 1000 ∷ 10000 ∷ 100000 ∷ 1000000 ∷ 10000000 ∷ []) 97 0
+
 -- 47, 49: every second digit doubled, with the digits of the double added; a multiple of 10 (Luhn, ISO/IEC 7812-1)
 abbrev pub luhn : Figure
 luhn = figure true (1 ∷ 2 ∷ []) 10 0
@@ -51,7 +55,3 @@ luhn = figure true (1 ∷ 2 ∷ []) 10 0
 -- 50, before the first digit is reduced: weights 10, 1, 3 .. 19 from the left; the total leaves 10 by 89
 abbrev pub figure50 : Figure
 figure50 = figure false (19 ∷ 17 ∷ 15 ∷ 13 ∷ 11 ∷ 9 ∷ 7 ∷ 5 ∷ 3 ∷ 1 ∷ 10 ∷ []) 89 10
-
--- 43: of the numbers that it accepts, the first eight and the last two add up to a multiple of 97
-abbrev pub figure43 : Figure
-figure43 = figure false (1 ∷ 10 ∷ 1 ∷ 10 ∷ 100 ∷ 1000 ∷ 10000 ∷ 100000 ∷ 1000000 ∷ 10000000 ∷ []) 97 0

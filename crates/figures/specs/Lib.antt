@@ -3,3 +3,5 @@ pub mod Total
 pub mod Figures
 pub mod Findings
 pub mod Rules
+pub mod Changes
+pub mod Completing

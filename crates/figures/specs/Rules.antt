@@ -5,11 +5,11 @@ use Prim.Native.Nat.{ℕ, _-_, _%_}
 use Prim.Native.Char.{code}
 use lib.Dec.{eqb}
 use lib.IntN.{ℤ, pos, natAbs, _+ℤ_, _-ℤ_, _*ℤ_}
-use lib.ListN.{getD, take, drop}
+use lib.ListN.{take, drop}
 use Rattle.ascii.specs.Class.{all}
 use Rattle.forms.specs.Form.{faultOf}
 use Rattle.forms.specs.Table.{digits, someDigits, italianOf}
-use Rattle.figures.specs.Total.{total, number}
+use Rattle.figures.specs.Total.{digitAt, number}
 use Rattle.figures.specs.Figures.{totalBy, right, figure40, figure41, luhn, figure50}
 use Rattle.figures.specs.Findings.{judged, judgedZero}
 use Rattle.figures.specs.declared.finding.Finding.{Finding}
@@ -39,7 +39,7 @@ seOrgnr s = judged (faultOf (digits 10 10) s) (right luhn s)
 
 -- 50 0151: the first digit is reduced by one before weighting, so that a leading zero contributes -10
 abbrev pub abnTotal : List ℕ → ℤ
-abnTotal s = pos 10 *ℤ (pos (getD s 0 0 - 48) -ℤ pos 1) +ℤ pos (totalBy figure50 (drop 1 s))
+abnTotal s = pos 10 *ℤ (pos (digitAt s 0) -ℤ pos 1) +ℤ pos (totalBy figure50 (drop 1 s))
 
 -- 11 digits; the total a multiple of 89
 unfoldable pub abn : List ℕ → Finding

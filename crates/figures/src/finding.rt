@@ -1,6 +1,5 @@
 // What a check of form and figure finds.
 ghost use mathlib.Core.Path.{_≡_};
-ghost use mathlib.Core.Bool.{true};
 ghost use Rattle.forms.specs.Form.{isFit};
 ghost use Rattle.forms.specs.declared.form.Fault.the-variants.{Fits};
 ghost use Rattle.figures.specs.Findings.{judged, reasonOf};
@@ -28,6 +27,7 @@ pub fn reason(f: Finding) -> Reason
     }
 }
 
+// Whether a text fits its form.
 pub fn is_fit(f: Fault) -> bool
     ensures { λ r. ⌜ r ≡ isFit f ⌝ }
 {

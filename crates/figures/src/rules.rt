@@ -14,8 +14,10 @@ use forms::n_digits;
 // The weights of an organisation number, from the right.
 const MOD11: [u32; 9] = [1, 2, 3, 4, 5, 6, 7, 2, 3];
 
+// The powers of ten, from the right.
 const POWERS: [u32; 8] = [1, 10, 100, 1000, 10000, 100000, 1000000, 10000000];
 
+// Rule 40 for any number of digits.
 fn gln_of(s: &[u8]) -> Finding
     ensures { λ r. ⌜ r ≡ gln (now (s .entry)) ⌝ }
 {
@@ -26,7 +28,7 @@ fn gln_of(s: &[u8]) -> Finding
     Finding::Unfit(fault)
 }
 
-// Nearly all have 13 digits: by themselves, so that the compiler knows how many there are.
+// A GLN has 13 digits. These go by themselves, so that both loops have a length that the compiler knows.
 pub fn gln(s: &[u8]) -> Finding
     ensures { λ r. ⌜ r ≡ gln (now (s .entry)) ⌝ }
 {

@@ -79,6 +79,7 @@ pub fn abn_total(s: &[u8]) -> i64
 {
     let weights = ABN;
     let rest = weighted(&s[1..11], &weights);
-    let first = ((s[0] - 48) as i64) - 1;
+    let digit = s[0] - 48;
+    let first = (digit as i64) - 1;
     (weights[10] as i64) * first + (rest as i64)
 }

@@ -1,23 +1,17 @@
 -- Which rule reads a field: by its scheme and its term.
-use mathlib.Core.Bool.{Bool, true, false, not, _&&_}
+use mathlib.Core.Bool.{not, _&&_}
 use mathlib.Core.List.{List, [], _∷_}
 use Prim.Native.Nat.{ℕ}
-use lib.Dec.{eqb}
 use Rattle.ascii.specs.Pick.{pick}
 use Rattle.ascii.specs.Class.{among}
 use Rattle.ascii.specs.Written.{bytes}
+-- schemes are compared byte for byte
+pub use Rattle.ascii.specs.Written.{sameBytes}
 use Rattle.rules.specs.declared.rule.Rule.{Rule}
 use Rattle.rules.specs.declared.rule.Rule.the-variants.{R562}
 use Rattle.rules.specs.declared.choice.Chosen.{Chosen}
 use Rattle.rules.specs.declared.choice.Chosen.the-variants.{By, NoRule, NoTerm}
 use Rattle.rules.specs.Facts.{facts, bytesOf, schemeRules}
-
--- byte for byte
-abbrev pub sameBytes : List ℕ → List ℕ → Bool
-sameBytes [] [] = true
-sameBytes [] (b ∷ t) = false
-sameBytes (a ∷ s) [] = false
-sameBytes (a ∷ s) (b ∷ t) = eqb a b && sameBytes s t
 
 -- the rule of a list that goes by a scheme
 abbrev pub withScheme : List ℕ → List Rule → Chosen

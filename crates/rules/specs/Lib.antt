@@ -3,4 +3,5 @@ pub mod Facts
 pub mod Choice
 pub mod Finding
 pub mod Check
+pub mod Detection
 pub mod Keys

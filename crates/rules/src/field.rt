@@ -40,11 +40,12 @@ fn answer_norm(rule: Rule, content: &[u8]) -> Answer
     requires { ⌜ facts rule .raw ≡ false ⌝ }
     ensures { λ r. ⌜ r ≡ answerBy rule (now (content .entry)) ⌝ }
 {
-    let t = text::normalize_space(content);
-    let reason = t.reason;
+    let mut area = [0u8; 1024];
+    let kept = text::normalize_into(content, &mut area);
+    let reason = kept.reason;
     if reason.number() == 0 {
-        let n = t.len;
-        return answer_to(rule, text::first_bytes(&t.bytes, n));
+        let n = kept.len;
+        return answer_to(rule, text::first_bytes(&area, n));
     }
     answer::refused(rule.number(), rule.severity(), reason)
 }

@@ -5,6 +5,7 @@ use mathlib.Core.Bool.{cond}
 use lib.Dec.{leb}
 use lib.ListN.{length, take, replicate}
 use Rattle.text.specs.declared.area.Text.{Text}
+use Rattle.text.specs.declared.area.Kept.{Kept}
 use Rattle.answer.specs.declared.reason.Reason.{Reason}
 use Rattle.answer.specs.declared.reason.Reason.the-variants.{NoReason, Long, Utf8}
 use Rattle.text.specs.Content.{Content, refused, content, contentOf, Cell, Piece}
@@ -40,6 +41,10 @@ normalText s = answer normal s
 
 unfoldable pub strippedText : List ℕ → Text
 strippedText s = answer stripped s
+
+-- what an area holds, as a text
+abbrev pub textIn : Kept → List ℕ → Text
+textIn k area = record { reason = k .reason; len = k .len; bytes = area }
 
 -- the bytes of a text, without the zeros after them
 abbrev pub textOf : Text → List ℕ

@@ -3,7 +3,7 @@ ghost use mathlib.Core.Path.{_≡_};
 ghost use Prim.Native.Nat.{_+_, _≤_};
 ghost use lib.ListN.{length, take, drop};
 ghost use lib.Seq.{paste};
-ghost use Rattle.text.specs.Answer.{refusal};
+ghost use Rattle.text.specs.Answer.{refusal, textIn};
 use answer::Reason;
 
 // A text in its working area: its length, its bytes, and zeros after them.
@@ -23,15 +23,17 @@ pub fn first_bytes(area: &[u8], n: usize) -> &[u8]
     area
 }
 
-pub(crate) fn refuse(reason: Reason) -> Text
-    ensures { λ r. ⌜ r ≡ refusal reason ⌝ }
+// What stands in an area: the reason, and the length of its text.
+pub struct Kept {
+    pub reason: Reason,
+    pub len: usize,
+}
+
+pub(crate) fn refuse(reason: Reason, out: &mut [u8; 1024]) -> Kept
+    ensures { λ r. ⌜ textIn r (now (out .exit)) ≡ refusal reason ⌝ }
 {
-    let bytes = [0u8; 1024];
-    Text {
-        reason,
-        len: 0,
-        bytes,
-    }
+    *out = [0u8; 1024];
+    Kept { reason, len: 0 }
 }
 
 // The k bytes from `at` go to the area, from n on.

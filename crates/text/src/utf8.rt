@@ -142,7 +142,7 @@ pub fn decode(s: &[u8], at: usize) -> Step
     beyond(s, at)
 }
 
-// The same, with the first row at hand: small enough to go into the loops below.
+// The same, with the first row at hand. `decode` is called in two places, so that this one stays small enough to go into a loop.
 pub(crate) fn next_point(s: &[u8], at: usize) -> Step
     ensures { λ r. ⌜ r ≡ stepOf (drop at (now (s .entry))) ⌝ }
 {
@@ -151,6 +151,7 @@ pub(crate) fn next_point(s: &[u8], at: usize) -> Step
         if a <= 0x7f {
             return Step::Point(wide(a), 1);
         }
+        return decode(s, at);
     }
     decode(s, at)
 }

@@ -1,16 +1,12 @@
 -- `ascii::is_digit` meets its contract. Assumes nothing.
-use borrow.Author.Tests.{lt-leb, le-leb}
+use mathlib.Core.Path.{refl}
 use Rattle.ascii.specs.Class.{within, isDigit}
 use Rattle.ascii.proofs.is_digit.Statement.{statement}
 use Rattle.ascii.proofs.is_digit.Tie as tie
 
 returns : tie.Need-returns
 unfolding within isDigit
-returns c = simp (lt-leb _ _ (c .if1 .taken))
-
-returns-2 : tie.Need-returns-2
-unfolding within isDigit
-returns-2 c = simp (le-leb _ _ (c .if1 .left))
+returns c = refl
 
 pub is-digit-spec : {M : Type 1} → statement M
-is-digit-spec = tie.close (tie.spec returns returns-2)
+is-digit-spec = tie.close (tie.spec returns)

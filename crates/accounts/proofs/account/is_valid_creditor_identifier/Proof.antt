@@ -1,26 +1,23 @@
 -- `accounts::account::is_valid_creditor_identifier` meets its contract. Assumes nothing.
-use mathlib.Core.Path.{_∙_}
+use mathlib.Core.Path.{_∙_, ap}
 use borrow.Author.Needs.{needs}
 use Rattle.answer.proofs.Laws.{is-none, is-given}
 use Rattle.accounts.specs.Rules.{creditorReason}
-use Rattle.accounts.proofs.Answers.{part-fits, unreadable, readable}
+use Rattle.accounts.proofs.Answers.{area-whole, unreadable, readable}
 use Rattle.accounts.proofs.account.is_valid_creditor_identifier.Statement.{statement}
 use Rattle.accounts.proofs.account.is_valid_creditor_identifier.Tie as tie
 
-strip-requires : tie.Need-strip-requires
-strip-requires c κs = search needs
+strip-into-requires : tie.Need-strip-into-requires
+strip-into-requires c κs = search needs
 
 number-requires : tie.Need-number-requires
 number-requires c κs = search needs
 
-sub-creditor-text : tie.Need-sub-creditor-text
-sub-creditor-text c = search needs
+slice-aggregate-first-bytes : tie.Need-slice-aggregate-first-bytes
+slice-aggregate-first-bytes c = area-whole _ _ (c .before .before .before .strip-into .ensures)
 
-part-creditor-text-start : tie.Need-part-creditor-text-start
-part-creditor-text-start c = search needs
-
-part-creditor-text-end : tie.Need-part-creditor-text-end
-part-creditor-text-end c = part-fits _ _ (c .before .before .before .before .strip .ensures)
+first-bytes-requires : tie.Need-first-bytes-requires
+first-bytes-requires c κs = search needs
 
 creditor-text-requires : tie.Need-creditor-text-requires
 creditor-text-requires c κs = search needs
@@ -30,10 +27,11 @@ judged-requires c κs = search needs
 
 returns : tie.Need-returns
 returns c =
-    let d = c .before .before .before .before .before in
+    let d = c .before .before in
     let e = d .before .before in
     c .judged .ensures
-    ∙ readable creditorReason _ _ (e .strip .ensures) _ (is-none _ (d .before .number .ensures) (d .if1 .taken)) (c .before .creditor-text .ensures)
+    ∙ readable creditorReason _ _ (e .before .before .strip-into .ensures) _ (is-none _ (e .before .number .ensures) (e .if1 .taken))
+    (c .before .creditor-text .ensures ∙ ap creditorReason (d .first-bytes .ensures))
 
 judged-requires-2 : tie.Need-judged-requires-2
 judged-requires-2 c κs = search needs
@@ -42,17 +40,16 @@ returns-2 : tie.Need-returns-2
 returns-2 c =
     let d = c .before .before in
     c .judged2 .ensures
-    ∙ unreadable creditorReason _ _ (d .before .strip .ensures) (is-given _ (d .number .ensures) (c .before .if1 .left))
+    ∙ unreadable creditorReason _ _ (d .before .strip-into .ensures) (is-given _ (d .number .ensures) (c .before .if1 .left))
 
 pub is-valid-creditor-identifier-spec : {M : Type 1} → statement M
 is-valid-creditor-identifier-spec =
     tie.close
     (tie.spec
-    strip-requires
+    strip-into-requires
     number-requires
-    sub-creditor-text
-    part-creditor-text-start
-    part-creditor-text-end
+    slice-aggregate-first-bytes
+    first-bytes-requires
     creditor-text-requires
     judged-requires
     returns

@@ -70,7 +70,7 @@ element-write-places : tie.Need-element-write-places Inv-loop μ-loop
 element-write-places c = let w = At (c .before) .loop .inv in let f = w .few in let l = w .room2 in search needs
 
 add-n : tie.Need-add-n Inv-loop μ-loop
-add-n c = let w = At (c .before) .loop .inv in let f = w .few in omega arith
+add-n c = let w = At (c .before) .loop .inv in let f = w .few in let z = fit (c .before) in omega arith
 
 add-at : tie.Need-add-at Inv-loop μ-loop
 add-at c = let z = fit (c .before) in omega arith

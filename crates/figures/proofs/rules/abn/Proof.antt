@@ -1,6 +1,6 @@
 -- `figures::rules::abn` meets its contract. Assumes nothing.
 use Prim.Native.Nat.{_%_}
-use mathlib.Core.Path.{_≡_, _∙_, ap}
+use mathlib.Core.Path.{_∙_, ap}
 use native.Mathlib.Omega.{arith}
 use lib.Dec.{eqb, lit<}
 use lib.IntN.{natAbs, pos}

@@ -1,6 +1,6 @@
 -- `figures::rules::gln_of` meets its contract. Assumes nothing.
 use Prim.Native.Nat.{_%_}
-use mathlib.Core.Path.{_≡_, ap}
+use mathlib.Core.Path.{ap}
 use native.Mathlib.Omega.{arith}
 use lib.Dec.{eqb}
 use borrow.Author.Needs.{needs}

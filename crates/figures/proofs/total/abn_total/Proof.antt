@@ -1,10 +1,9 @@
 -- `figures::total::abn_total` meets its contract. Assumes nothing.
-use Prim.Native.Nat.{_-_, _≤_, _<_}
-use mathlib.Core.Path.{_≡_, refl, _∙_, ap}
+use Prim.Native.Nat.{_-_, _≤_}
+use mathlib.Core.Path.{refl, _∙_, ap}
 use native.Mathlib.Omega.{arith}
-use lib.Dec.{leb}
 use lib.IntN.{pos, _+ℤ_, _-ℤ_, _*ℤ_}
-use lib.ListN.{length, getD, length-drop}
+use lib.ListN.{getD, length-drop}
 use borrow.Author.Needs.{needs}
 use Rattle.ascii.specs.Class.{isDigit, all}
 use Rattle.ascii.proofs.Class.{digit-bounds, all-at, all-drop}
@@ -44,17 +43,17 @@ weighted-requires c κs =
     let s = a .args .s .now in
     rw (cut 1 11 s (a .pre .1)) (all-drop isDigit 1 s (a .pre .0), (omega (arith, length-drop 1 s), (omega (arith, length-drop 1 s), refl)))
 
-shared-slice-read-first : tie.Need-shared-slice-read-first
-shared-slice-read-first c = search needs
+shared-slice-read-digit : tie.Need-shared-slice-read-digit
+shared-slice-read-digit c = search needs
 
-sub-first : tie.Need-sub-first
-sub-first c = known c .0
+sub-digit : tie.Need-sub-digit
+sub-digit c = known c .0
 
 cast-first : tie.Need-cast-first
 cast-first c = record { sfits = omega (arith, known c) }
 
-sub-first-2 : tie.Need-sub-first-2
-sub-first-2 c =
+sub-first : tie.Need-sub-first
+sub-first c =
     fits-first (getD (c .before .before .before .before .before .args .s .now) 0 0 - 48) (c .before .weighted .result) (known c .1) (known c .2)
 
 array-read-result : tie.Need-array-read-result
@@ -90,10 +89,10 @@ abn-total-spec =
     part-weighted-end
     slice-aggregate-weighted
     weighted-requires
-    shared-slice-read-first
-    sub-first
+    shared-slice-read-digit
+    sub-digit
     cast-first
-    sub-first-2
+    sub-first
     array-read-result
     cast-result
     mul-result

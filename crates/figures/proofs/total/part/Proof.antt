@@ -1,10 +1,8 @@
 -- `figures::total::part` meets its contract. Assumes nothing.
-use Prim.Native.Nat.{ℕ, _-_, _*_, _≤_}
-use mathlib.Core.Path.{_≡_, refl, ap}
+use mathlib.Core.Path.{refl}
 use native.Mathlib.Omega.{arith}
 use borrow.Author.Needs.{needs}
 use Rattle.ascii.proofs.Class.{digit-bounds}
-use Rattle.figures.specs.Figures.{counted}
 use Rattle.figures.proofs.Steps.{product}
 use Rattle.figures.proofs.total.part.Statement.{statement}
 use Rattle.figures.proofs.total.part.Tie as tie

@@ -1,0 +1,158 @@
+-- One total says what the rule says: of a number of the right form, and of one with a digit replaced or two exchanged. Assumes nothing.
+use mathlib.Core.Path.{_≡_, refl, sym, ap, _∙_}
+use mathlib.Core.Bool.{Bool, true, false, not, _&&_}
+use mathlib.Core.List.{List, [], _∷_}
+use Prim.Native.Nat.{ℕ, _+_, _-_, _*_, _/_, _%_, _^_, _≤_, _<_}
+use native.Mathlib.Nat.{mul-assoc}
+use native.Mathlib.Omega.{arith}
+use borrow.Author.Tests.{eqb-true}
+use lib.Dec.{eqb}
+use lib.IntN.{natAbs, subℕ}
+use lib.ListN.{length, set, take, drop, length-set, length-take, length-drop, take-append-drop}
+use Rattle.ascii.specs.Class.{isDigit, all}
+use Rattle.ascii.proofs.Tests.{eqb-iff, below-at}
+use Rattle.ascii.proofs.Class.{digit-bounds, digit-inside, all-first, all-rest, all-drop}
+use Rattle.forms.specs.declared.form.Fault.{Fault}
+use Rattle.forms.specs.declared.form.Fault.the-variants.{Fits}
+use Rattle.forms.proofs.OfDigits.{Digits, digits-true, fit-digits}
+use Rattle.figures.specs.Total.{total, digitAt, number}
+use Rattle.figures.specs.Figures.{totalBy, right, figure40, figure41, luhn, figure50}
+use Rattle.figures.specs.Findings.{isGood, judgedZero}
+use Rattle.figures.specs.Rules.{gln, mod11, mod97, seOrgnr, abn, abnTotal, allZero}
+use Rattle.figures.specs.Changes.{exchanged}
+use Rattle.figures.proofs.Judging.{good-by}
+use Rattle.figures.proofs.Digits.{all-set}
+use Rattle.figures.proofs.Zeros.{zeros41}
+use Rattle.figures.proofs.Shift.{total-set, total-exchanged}
+use Rattle.figures.proofs.Links.{join, total-reduced, leaves-ten, ten-leaves}
+use Rattle.figures.proofs.Detect.{digits-exchanged}
+use Rattle.rules.specs.Finding.{accepts}
+use Rattle.corrections.specs.declared.five.Five.{Five}
+use Rattle.corrections.specs.declared.five.Five.the-variants.{Gln, Norway, Belgium, Sweden, Australia}
+use Rattle.corrections.specs.Five.{ruleOf}
+use Rattle.corrections.specs.Corrections.{replaced}
+use Rattle.corrections.specs.Listing.{leastOf, mostOf}
+use Rattle.corrections.specs.Totals.{share, passes, Summed}
+use Rattle.corrections.proofs.Totals.{most-20, share-small, share-zero}
+
+-- ---- 0208: the number itself, and its first eight and last two digits
+
+hundreds : (f : ℕ → ℕ → ℕ) (s : List ℕ) → total (λ k d. 100 * f k d) s ≡ 100 * total f s
+hundreds f [] = refl
+hundreds f (b ∷ s) = omega (arith, hundreds f s)
+
+two-more : (k d : ℕ) → k < 8 → 10 ^ (k + 2) * d ≡ 100 * (10 ^ k * d)
+two-more k d l =
+    ap (λ w. w * d) (eqb-true (10 ^ (k + 2)) (100 * 10 ^ k) (below-at 8 (λ j. eqb (10 ^ (j + 2)) (100 * 10 ^ j)) refl k l))
+    ∙ mul-assoc 100 (10 ^ k) d
+
+eight-two : (s : List ℕ) → length s ≡ 10 → number s ≡ 100 * number (take 8 s) + number (drop 8 s)
+eight-two s n =
+    let ld : length (drop 8 s) ≡ 2 = omega (arith, length-drop 8 s) in
+    let h = hundreds (λ k d. 10 ^ k * d) (take 8 s) in
+    sym (ap number (take-append-drop 8 s))
+    ∙ join (λ k d. 10 ^ k * d) (λ k d. 100 * (10 ^ k * d)) (λ k d. 10 ^ k * d) (take 8 s) (drop 8 s)
+    (λ k d l. rw ld (two-more k d (omega (arith, length-take 8 s))))
+    (λ k d l. refl)
+    ∙ ap (λ t. t + number (drop 8 s)) h
+
+below-hundred : (s : List ℕ) → length s ≡ 2 → all isDigit s ≡ true → number s < 100
+below-hundred [] n h = absurd (omega arith)
+below-hundred (a ∷ []) n h = absurd (omega arith)
+below-hundred (a ∷ b ∷ []) n h =
+    let p = digit-bounds a (all-first isDigit a (b ∷ []) h) in
+    let q = digit-bounds b (all-first isDigit b [] (all-rest isDigit a (b ∷ []) h)) in
+    omega arith
+below-hundred (a ∷ b ∷ c ∷ s) n h = absurd (omega arith)
+
+apart : (t x y : ℕ) → t ≡ 100 * x + y → y < 100 → eqb y (97 - x % 97) ≡ eqb (t % 100) (97 - t / 100 % 97)
+apart t x y e l =
+    let p : t % 100 ≡ y = omega arith in
+    let q : t / 100 ≡ x = omega arith in
+    rw (p, q)
+
+-- ---- each rule of a number of the right form
+
+zero-first : {y : Fault} (z x : Bool) → y ≡ Fits → isGood (judgedZero y z x) ≡ not z && x
+zero-first true x h = rw h
+zero-first false x h = rw h (good-by x refl)
+
+pub exact : (k : Five) (s : List ℕ) → Digits (leastOf k) (mostOf k) s → accepts (ruleOf k) s ≡ passes k (total (share k) s)
+unfolding accepts share gln mod11 mod97 seOrgnr abn
+exact Gln s d =
+    good-by (right figure40 s) (fit-digits 1 1024 s (record { least = d .least; most = omega (arith, d .most); digit = d .digit }))
+exact Norway s d =
+    zero-first (allZero s) (right figure41 s) (fit-digits 9 9 s d)
+    ∙ ap (λ z. not z && right figure41 s) (sym (zeros41 s (d .digit)))
+exact Belgium s d =
+    let n : length s ≡ 10 = omega (arith, d .least, d .most) in
+    good-by (eqb (number (drop 8 s)) (97 - number (take 8 s) % 97)) (fit-digits 10 10 s d)
+    ∙ apart (number s) (number (take 8 s)) (number (drop 8 s)) (eight-two s n)
+    (below-hundred (drop 8 s) (omega (arith, length-drop 8 s)) (all-drop isDigit 8 s (d .digit)))
+exact Sweden s d = good-by (right luhn s) (fit-digits 10 10 s d)
+exact Australia s d =
+    let n : length s ≡ 11 = omega (arith, d .least, d .most) in
+    let t = totalBy figure50 s in
+    good-by (eqb (natAbs (abnTotal s) % 89) 0) (fit-digits 11 11 s d)
+    ∙ ap (λ z. eqb (natAbs z % 89) 0) (total-reduced s n)
+    ∙ eqb-iff (natAbs (subℕ t 10) % 89) 0 (t % 89) 10 (leaves-ten t) (ten-leaves t)
+
+-- ---- totals are small
+
+total-small : (k : Five) (s : List ℕ) → all isDigit s ≡ true → length s ≤ mostOf k → total (share k) s ≤ 9000000000 * length s
+total-small k [] h l = omega arith
+total-small k (b ∷ s) h l =
+    let d = digit-bounds b (all-first isDigit b s h) in
+    omega (arith, share-small k (length s) (b - 48) (omega arith) (omega arith), total-small k s (all-rest isDigit b s h) (omega arith))
+
+-- ---- the tests that the code makes
+
+module _ (k : Five) (s : List ℕ) (sum : ℕ) (p : Summed k s sum) where
+  pub number-digits : Digits (leastOf k) (mostOf k) s
+  number-digits = digits-true (leastOf k) (mostOf k) s (p .formed)
+
+  pub sum-small : sum ≤ 180000000000
+  sum-small =
+      let d = number-digits in
+      omega (arith, total-small k s (d .digit) (d .most), d .most, most-20 k, p .sum-is)
+
+  pub number-passes : passes k sum ≡ accepts (ruleOf k) s
+  number-passes = ap (passes k) (p .sum-is) ∙ sym (exact k s number-digits)
+
+  digits-set : (i v : ℕ) → isDigit v ≡ true → Digits (leastOf k) (mostOf k) (set s i v)
+  digits-set i v e =
+      let d = number-digits in
+      let n = length-set s i v in
+      record { least = omega (arith, d .least); most = omega (arith, d .most); digit = all-set s i v (d .digit) e }
+
+  module _ (i was : ℕ) (h : i < length s) (e : was ≡ share k (length s - 1 - i) (digitAt s i)) where
+    -- the sum has the digit's share in it
+    pub share-within : was ≤ sum
+    share-within = omega (arith, total-set (share k) s i 48 h, share-zero k (length s - 1 - i), p .sum-is)
+
+    pub replaced-test : (d new : ℕ) → d < 10 → new ≡ share k (length s - 1 - i) d → passes k (sum - was + new) ≡ accepts (ruleOf k) (replaced s i d)
+    replaced-test d new l q =
+        let z : 48 + d - 48 ≡ d = omega arith in
+        let t = rw z at (total-set (share k) s i (48 + d) h) in
+        let v : sum - was + new ≡ total (share k) (replaced s i d) = omega (arith, p .sum-is, share-within) in
+        ap (passes k) v ∙ sym (exact k (replaced s i d) (digits-set i (48 + d) (digit-inside (48 + d) (omega arith) (omega arith))))
+
+  module _ (i a b w1 w2 n1 n2 : ℕ) (h : i + 1 < length s) (qa : a ≡ digitAt s i) (qb : b ≡ digitAt s (i + 1))
+      (r1 : w1 ≡ share k (length s - 1 - i) a) (r2 : w2 ≡ share k (length s - 1 - (i + 1)) b)
+      (r3 : n1 ≡ share k (length s - 1 - i) b) (r4 : n2 ≡ share k (length s - 1 - (i + 1)) a) where
+    change : total (share k) (exchanged s i) + (w1 + w2) ≡ sum + (n1 + n2)
+    change =
+        let t = total-exchanged (share k) s i h in
+        let v1 = rw qa at r1 in
+        let v2 = rw qb at r2 in
+        let v3 = rw qb at r3 in
+        let v4 = rw qa at r4 in
+        omega (arith, p .sum-is)
+
+    pub shares-within : w1 + w2 ≤ sum + (n1 + n2)
+    shares-within = omega (arith, change)
+
+    pub exchanged-test : passes k (sum + (n1 + n2) - (w1 + w2)) ≡ accepts (ruleOf k) (exchanged s i)
+    exchanged-test =
+        let v : sum + (n1 + n2) - (w1 + w2) ≡ total (share k) (exchanged s i) = omega (arith, change) in
+        ap (passes k) v ∙ sym (exact k (exchanged s i) (digits-exchanged (leastOf k) (mostOf k) s i number-digits h))

@@ -1,0 +1,57 @@
+-- `corrections::entries::put_exchanges` meets its contract.
+use Prim.Native.Nat.{_-_, _≤_}
+use denote.Ref.{now}
+use lib.ListN.{length}
+use Rattle.figures.specs.Changes.{exchanged}
+use Rattle.corrections.specs.Five.{ruleOf}
+use Rattle.corrections.specs.Corrections.{kept, exchanges}
+use Rattle.corrections.proofs.Areas.{Filled, fill-none, fill-more, fill-all, next-fits}
+use native.Mathlib.Omega.{arith}
+use borrow.Author.Needs.{needs}
+use Rattle.corrections.proofs.entries.put_exchanges.Statement.{statement}
+use Rattle.corrections.proofs.entries.put_exchanges.Tie as tie
+
+abbrev Inv-loop : tie.InvT-loop
+Inv-loop kind weights s sum out₀ at₀ i₀ out at i = (i ≤ length s - 1) × Filled (λ j. kept (ruleOf kind) (exchanged s j)) (length s) out₀ i at out
+
+abbrev μ-loop : tie.MeasureT-loop
+μ-loop kind weights s sum out₀ at₀ i₀ out at i = length s - i
+
+loop-holds : tie.Need-loop-holds Inv-loop μ-loop
+loop-holds c = (omega arith, fill-none _ _ _)
+
+add-loop : tie.Need-add-loop Inv-loop μ-loop
+add-loop c = search needs
+
+put-swap-requires : tie.Need-put-swap-requires Inv-loop μ-loop
+put-swap-requires c κs =
+    let a = c .before .before .before .before .before .before in
+    let l = c .before .before .loop in
+    let n = length (now (a .args .s)) in
+    let f = next-fits (l .i) (n - 1) (l .at) n (length (now (a .args .out))) (omega arith) (l .inv .1 .most) (a .pre .1 .1) in
+    (a .pre .0, (a .pre .1 .0, (omega arith, omega (arith, f, l .inv .1 .long))))
+
+add-i : tie.Need-add-i Inv-loop μ-loop
+add-i c = search needs
+
+loop-less : tie.Need-loop-less Inv-loop μ-loop
+loop-less c = search needs
+
+loop-again : tie.Need-loop-again Inv-loop μ-loop
+loop-again c =
+    let a = c .before .before .before .before .before .before .before .before .before in
+    let l = c .before .before .before .before .before .loop in
+    let n = length (now (a .args .s)) in
+    (omega arith, fill-more _ _ _ _ _ _ _ _ (l .inv .1) (next-fits (l .i) (n - 1) (l .at) n (length (now (a .args .out))) (omega arith) (l .inv .1 .most) (a .pre .1 .1)) (c .before .before .put-swap .ensures))
+
+same-length : tie.Need-same-length Inv-loop μ-loop
+same-length c = search needs
+
+returns : tie.Need-returns Inv-loop μ-loop
+unfolding exchanges
+returns c =
+    let l = c .before .loop in
+    fill-all _ _ _ (l .i) _ (l .at) _ (l .inv .1) (omega arith)
+
+pub put-exchanges-spec : {M : Type 1} → statement M
+put-exchanges-spec = tie.close (tie.spec Inv-loop μ-loop loop-holds add-loop put-swap-requires add-i loop-less loop-again same-length returns)

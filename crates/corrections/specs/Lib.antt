@@ -1,0 +1,9 @@
+-- Completing a body, and the list of all corrections of a refused number.
+pub mod Five
+pub mod Outcome
+pub mod Completing
+pub mod Entries
+pub mod Corrections
+pub mod Listing
+pub mod Totals
+pub mod Meaning

@@ -1,0 +1,16 @@
+// What a completion or a listing answers.
+ghost use mathlib.Core.Path.{_≡_};
+ghost use Rattle.corrections.specs.Outcome.{refusedBy};
+use answer::Reason;
+
+// NoReason where the work is done, and then a count: of digits written or of entries.
+pub struct Done {
+    pub reason: Reason,
+    pub count: usize,
+}
+
+pub(crate) fn refused(reason: Reason) -> Done
+    ensures { λ r. ⌜ r ≡ refusedBy reason ⌝ }
+{
+    Done { reason, count: 0 }
+}

@@ -1,0 +1,13 @@
+//! The proved library beside the Rust that it was carried over from.
+
+pub mod inputs;
+pub mod invoice;
+pub mod library;
+#[allow(unexpected_cfgs)] // the original's feature `sepa`, whose branches are not taken
+pub mod original;
+pub mod random;
+pub mod report;
+pub mod text;
+
+// the copied text names it here
+pub use invoice::Identifier;
