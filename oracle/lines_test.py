@@ -6,6 +6,7 @@
     lines_test.py --cases     writes the program's own stdin and stdout files: document 01's example and the hard cases"""
 import os, pathlib, random, subprocess, sys, threading, time
 
+sys.dont_write_bytecode = True  # no folder beside the sources
 import paper
 
 ROOT = pathlib.Path(__file__).resolve().parent.parent

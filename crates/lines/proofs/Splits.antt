@@ -1,6 +1,6 @@
 -- How an input is split into lines: one line after the other, and a line that no newline ends yet. Assumes nothing.
 use mathlib.Core.Path.{_≡_, refl, sym, _∙_, ap}
-use mathlib.Core.Bool.{Bool, true, false}
+use mathlib.Core.Bool.{Bool, true, false, _||_}
 use mathlib.Core.List.{List, [], _∷_, _++_, append-nil}
 use Prim.Native.Nat.{ℕ, zero, suc, _+_, _-_, _≤_, _<_}
 use native.Mathlib.Nat.{suc-add}
@@ -9,7 +9,8 @@ use native.Mathlib.Omega.{arith}
 use lib.Dec.{eqb}
 use lib.ListN.{length, take, drop, getD, length-drop}
 use lib.Seq.{drop-cons}
-use borrow.Author.Tests.{eq-eqb, ne-eqb}
+use borrow.Author.Tests.{eq-eqb, ne-eqb, eqb-false}
+use Rattle.ascii.proofs.Tests.{false-true}
 use Rattle.ascii.specs.Pick.{pick}
 use Rattle.ascii.specs.Class.{among}
 use Rattle.lines.specs.Stream.{inFront, split, linesOf}
@@ -74,6 +75,48 @@ upto-here s i h e = rw (drop-cons s i 0 h) (upto-newline (getD s i 0) (drop (suc
 
 pub upto-past : (s : List ℕ) (i : ℕ) → i < length s → (getD s i 0 ≡ 10 → ⊥) → upto (drop i s) ≡ suc (upto (drop (i + 1) s))
 upto-past s i h n = rw (drop-cons s i 0 h, add-one i) (upto-byte (getD s i 0) (drop (suc i) s) (ne-eqb _ _ n))
+
+-- eight bytes that are tested together
+or-false : (a b : Bool) → (a || b) ≡ false → (a ≡ false) × (b ≡ false)
+or-false true b e = false-true (sym e)
+or-false false b e = (refl, e)
+
+past-one : (s : List ℕ) (i : ℕ) → i < length s → eqb (getD s i 0) 10 ≡ false → upto (drop i s) ≡ suc (upto (drop (i + 1) s))
+past-one s i h e = upto-past s i h (eqb-false (getD s i 0) 10 e)
+
+past-two : (s : List ℕ) (i j : ℕ) → j ≡ i + 1 → i + 2 ≤ length s → (eqb (getD s i 0) 10 || eqb (getD s j 0) 10) ≡ false
+    → upto (drop i s) ≡ 2 + upto (drop (i + 2) s)
+past-two s i j ej h e =
+    let t = or-false (eqb (getD s i 0) 10) (eqb (getD s j 0) 10) e in
+    let f : eqb (getD s (i + 1) 0) 10 ≡ false = rw ej at (t .1) in
+    let n : i + 1 + 1 ≡ i + 2 = omega arith in
+    let last : upto (drop (i + 1 + 1) s) ≡ upto (drop (i + 2) s) = ap (λ (k : ℕ). upto (drop k s)) n in
+    omega (arith, past-one s i (omega arith) (t .0), past-one s (i + 1) (omega arith) f, last)
+
+pub past-eight : (s : List ℕ) (i : ℕ) → i + 8 ≤ length s
+    → (((eqb (getD s i 0) 10 || eqb (getD s (i + 1) 0) 10) || (eqb (getD s (i + 2) 0) 10 || eqb (getD s (i + 3) 0) 10))
+    || ((eqb (getD s (i + 4) 0) 10 || eqb (getD s (i + 5) 0) 10) || (eqb (getD s (i + 6) 0) 10 || eqb (getD s (i + 7) 0) 10)))
+    ≡ false
+    → upto (drop i s) ≡ 8 + upto (drop (i + 8) s)
+past-eight s i h e =
+    let a = eqb (getD s i 0) 10 || eqb (getD s (i + 1) 0) 10 in
+    let b = eqb (getD s (i + 2) 0) 10 || eqb (getD s (i + 3) 0) 10 in
+    let c = eqb (getD s (i + 4) 0) 10 || eqb (getD s (i + 5) 0) 10 in
+    let d = eqb (getD s (i + 6) 0) 10 || eqb (getD s (i + 7) 0) 10 in
+    let t = or-false (a || b) (c || d) e in
+    let l = or-false a b (t .0) in
+    let r = or-false c d (t .1) in
+    let at : (j k : ℕ) → j ≡ k → upto (drop j s) ≡ upto (drop k s) = λ j k q. ap (λ (n : ℕ). upto (drop n s)) q in
+    omega (
+      arith,
+      past-two s i (i + 1) refl (omega arith) (l .0),
+      past-two s (i + 2) (i + 3) (omega arith) (omega arith) (l .1),
+      past-two s (i + 4) (i + 5) (omega arith) (omega arith) (r .0),
+      past-two s (i + 6) (i + 7) (omega arith) (omega arith) (r .1),
+      at (i + 2 + 2) (i + 4) (omega arith),
+      at (i + 4 + 2) (i + 6) (omega arith),
+      at (i + 6 + 2) (i + 8) (omega arith),
+    )
 
 pub upto-end : (s : List ℕ) (i : ℕ) → length s ≤ i → upto (drop i s) ≡ 0
 upto-end [] zero h = upto-none

@@ -3,8 +3,7 @@ use Prim.Native.Nat.{_<_}
 use borrow.Author.Needs.{needs}
 use native.Mathlib.Omega.{arith}
 use Prim.Native.Nat.{_≤_, _+_, _-_}
-use mathlib.Core.Path.{_≡_, sym}
-use native.Mathlib.Nat.{zero-add}
+use mathlib.Core.Path.{_≡_}
 use lib.ListN.{length, drop}
 use Rattle.lines.specs.Window.{upto}
 use Rattle.lines.proofs.Splits.{upto-here, upto-past, upto-end}
@@ -12,6 +11,7 @@ use Rattle.lines.proofs.window.line_len.Statement.{statement}
 use Rattle.lines.proofs.window.line_len.Tie as tie
 use Rattle.lines.proofs.window.line_len.Reads as reads
 use Rattle.lines.proofs.window.line_len.Lts as lts
+use Rattle.lines.proofs.window.skip.Reads as skip-reads
 
 abbrev Inv-loop : tie.InvT-loop
 Inv-loop s i₀ i = (i ≤ length s) × (upto s ≡ i + upto (drop i s))
@@ -19,14 +19,19 @@ Inv-loop s i₀ i = (i ≤ length s) × (upto s ≡ i + upto (drop i s))
 abbrev μ-loop : tie.MeasureT-loop
 μ-loop s i₀ i = length s - i
 
+skip-requires : tie.Need-skip-requires Inv-loop μ-loop
+skip-requires c κs = search needs
+
 loop-holds : tie.Need-loop-holds Inv-loop μ-loop
-loop-holds c = (search needs, sym (zero-add _))
+loop-holds c = (c .skip .ensures .0, c .skip .ensures .1)
 
 shared-slice-read-if1 : tie.Need-shared-slice-read-if1 Inv-loop μ-loop
 shared-slice-read-if1 c = omega arith
 
 returns : tie.Need-returns Inv-loop μ-loop
-returns c = let h : c .before .before .before .loop .i < length (c .before .before .before .before .args .s .now) = omega arith in omega (arith, upto-here (c .before .before .before .before .args .s .now) (c .before .before .before .loop .i) h (c .if1 .taken))
+returns c =
+    let h : c .before .before .before .loop .i < length (c .before .before .before .before .before .before .args .s .now) = omega arith in
+    omega (arith, upto-here (c .before .before .before .before .before .before .args .s .now) (c .before .before .before .loop .i) h (c .if1 .taken))
 
 add-i : tie.Need-add-i Inv-loop μ-loop
 add-i c = omega arith
@@ -35,10 +40,14 @@ loop-less : tie.Need-loop-less Inv-loop μ-loop
 loop-less c = omega arith
 
 loop-again : tie.Need-loop-again Inv-loop μ-loop
-loop-again c = let h : c .before .before .before .loop .i < length (c .before .before .before .before .args .s .now) = omega arith in omega (arith, upto-past (c .before .before .before .before .args .s .now) (c .before .before .before .loop .i) h (c .if1 .left))
+loop-again c =
+    let h : c .before .before .before .loop .i < length (c .before .before .before .before .before .before .args .s .now) = omega arith in
+    omega (arith, upto-past (c .before .before .before .before .before .before .args .s .now) (c .before .before .before .loop .i) h (c .if1 .left))
 
 returns-2 : tie.Need-returns-2 Inv-loop μ-loop
-returns-2 c = let h : length (c .before .before .args .s .now) ≤ c .before .loop .i = omega arith in omega (arith, upto-end (c .before .before .args .s .now) (c .before .loop .i) h)
+returns-2 c =
+    let h : length (c .before .before .before .before .args .s .now) ≤ c .before .loop .i = omega arith in
+    omega (arith, upto-end (c .before .before .before .before .args .s .now) (c .before .loop .i) h)
 
 pub line-len-spec : {M : Type 1} → statement M
 line-len-spec =
@@ -46,6 +55,7 @@ line-len-spec =
     (tie.spec
     Inv-loop
     μ-loop
+    skip-requires
     loop-holds
     shared-slice-read-if1
     returns
