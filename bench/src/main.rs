@@ -1,5 +1,6 @@
 //! Times the proved library beside the Rust original: `bench [ROUNDS]`.
 
+mod checks;
 mod text;
 
 use std::time::Instant;
@@ -16,7 +17,8 @@ fn main() {
         Some(word) => word.parse().expect("the number of rounds"),
         None => 501,
     };
-    let mut cases: Vec<Timed> = text::cases().into_iter().map(Timed::new).collect();
+    let cases = [text::cases(), checks::cases()];
+    let mut cases: Vec<Timed> = cases.into_iter().flatten().map(Timed::new).collect();
     for _ in 0..rounds {
         cases.iter_mut().for_each(Timed::round);
     }

@@ -253,6 +253,14 @@ fn list(five: &Five, number: &str, r: &mut Random, row: &mut Row) -> Result<(), 
     Ok(())
 }
 
+/// The corrections of a number of one of the five schemes, by trying.
+pub fn every(scheme: &str, number: &str) -> Vec<String> {
+    match FIVE.iter().find(|five| five.scheme == scheme) {
+        Some(five) => entries(five, number),
+        None => Vec::new(),
+    }
+}
+
 fn entries(five: &Five, number: &str) -> Vec<String> {
     let s = number.as_bytes();
     let mut found = Vec::new();
