@@ -2,3 +2,4 @@
 pub mod Pick
 pub mod Class
 pub mod Written
+pub mod Area

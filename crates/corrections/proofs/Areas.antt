@@ -77,7 +77,7 @@ put-then a at x y h =
     rw (e, take-at (p ++ x) d (at + length x) lx, f, g) (simp append-assoc)
 
 pub put-zero : (a b : List ℕ) → put a 0 b ≡ over b a
-unfolding put over
+unfolding put
 put-zero a b = simp zero-add
 
 pub length-put : (a : List ℕ) (at : ℕ) (b : List ℕ) → at + length b ≤ length a → length (put a at b) ≡ length a
@@ -85,7 +85,6 @@ unfolding put
 length-put a at b h = simp (length-append, length-take, length-drop) (omega arith)
 
 pub over-then : (a x y : List ℕ) → x ++ over y (drop (length x) a) ≡ over (x ++ y) a
-unfolding over
 over-then a x y = simp (drop-drop, length-append) (sym (append-assoc x y (drop (length x + length y) a)))
 
 -- ---- a row written into the part of the area that was lent for it
@@ -118,7 +117,7 @@ pub record Filled (f : ℕ → List (List ℕ)) (n : ℕ) (a : List ℕ) (i at :
   pub long : length out ≡ length a
 
 pub fill-none : (f : ℕ → List (List ℕ)) (n : ℕ) (a : List ℕ) → Filled f n a 0 0 a
-unfolding each joined over
+unfolding each joined
 fill-none f n a = record { end = refl; most = omega arith; now = refl; long = refl }
 
 over-put : (a x y : List ℕ) → length x ≤ length a → put (over x a) (length x) y ≡ over (x ++ y) a
@@ -151,7 +150,6 @@ fill-all f n a i m at out p q =
     record { end = r; most = rw (← r) (rw q at (p .most)); now = rw q at (p .now) }
 
 over-is : (x a : List ℕ) → over x a ≡ x ++ drop (length x) a
-unfolding over
 over-is x a = refl
 
 -- a listing, and a second one in the rest of the area

@@ -16,7 +16,6 @@ use Rattle.corrections.specs.Outcome.{Outcome, refusedBy, refusal, unles
 
 -- nothing is written
 pub works-refused : {o : Outcome} {r : Done} (why : Reason) (a : List ℕ) → o ≡ refusal why → r ≡ refusedBy why → Works o a r a
-unfolding over
 works-refused why a e q = record { says = rw e q; now = rw e }
 
 -- ---- the first reason decides
@@ -56,12 +55,10 @@ before-room why need room o e = rw (e, e)
 -- ---- one byte or two at an area's start
 
 pub one-over : (a : List ℕ) (x : ℕ) → 2 ≤ length a → set a 0 x ≡ over (x ∷ []) a
-unfolding over
 one-over [] x h = absurd (omega arith)
 one-over (b ∷ a) x h = refl
 
 pub two-over : (a : List ℕ) (x y : ℕ) → 2 ≤ length a → set (set a 0 x) 1 y ≡ over (x ∷ y ∷ []) a
-unfolding over
 two-over [] x y h = absurd (omega arith)
 two-over (b ∷ []) x y h = absurd (omega arith)
 two-over (b ∷ c ∷ a) x y h = refl

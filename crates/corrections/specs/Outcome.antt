@@ -1,9 +1,9 @@
 -- What a completion or a listing answers, and what it writes.
 use mathlib.Core.Path.{_≡_}
-use mathlib.Core.List.{List, [], _++_}
+use mathlib.Core.List.{List, []}
 use Prim.Native.Nat.{ℕ}
 use lib.Dec.{leb}
-use lib.ListN.{length, drop}
+pub use Rattle.ascii.specs.Area.{over}
 use Rattle.ascii.specs.Pick.{pick}
 use Rattle.answer.specs.declared.reason.Reason.{Reason}
 use Rattle.answer.specs.declared.reason.Reason.the-variants.{NoReason, Form as FormReason, Scheme, Room}
@@ -43,10 +43,6 @@ formReason f s = pick (fits f s) NoReason FormReason
 
 unfoldable pub roomReason : ℕ → ℕ → Reason
 roomReason required room = pick (leb required room) NoReason Room
-
--- an area with the bytes b at its start; what follows them stays
-unfoldable pub over : List ℕ → List ℕ → List ℕ
-over b area = b ++ drop (length b) area
 
 -- the answer r, and the area after it, are those of an outcome
 pub record Works (o : Outcome) (area : List ℕ) (r : Done) (after : List ℕ) : Type 0 where

@@ -13,7 +13,7 @@ use borrow.Author.Tests.{le-leb, lt-leb, ltb-true, ltb-false}
 use Rattle.ascii.specs.Pick.{pick}
 use Rattle.lines.specs.Text.{lineText}
 use Rattle.lines.specs.Stream.{answersTo}
-use Rattle.lines.specs.Window.{ended, fitting, extent, writtenOf, usedOf, clipped, keptOf, lastOf, over, upto, Stored, Laid, StepRight}
+use Rattle.lines.specs.Window.{ended, fitting, extent, writtenOf, usedOf, clipped, keptOf, lastOf, upto, Stored, Laid, StepRight}
 use Rattle.lines.proofs.Heads.{drop-take, take-least}
 use Rattle.lines.proofs.Texts.{stored-front, stored-behind}
 use Rattle.lines.proofs.Splits.{by, Open, upto-le, ended-line, ended-open, among-line, among-open}

@@ -6,11 +6,12 @@ use Prim.Native.Nat.{ℕ, suc, _+_, _-_, _≤_, _<_}
 use lib.Dec.{leb, eqb}
 use lib.ListN.{length, take, drop}
 use lib.Seq.{sets}
+pub use Rattle.ascii.specs.Area.{over}
 use Rattle.ascii.specs.Pick.{pick}
 use Rattle.ascii.specs.Class.{among}
 use Rattle.lines.specs.Line.{newline}
 use Rattle.lines.specs.Text.{lineText}
-use Rattle.lines.specs.Stream.{split, answersTo, answers}
+use Rattle.lines.specs.Stream.{split, answersTo}
 
 -- the lines that a newline ends
 abbrev pub ended : List ℕ → List (List ℕ)
@@ -45,10 +46,6 @@ keptOf room s = clipped (drop (usedOf room s) s)
 -- what is written for a last line that no newline ends
 unfoldable pub lastOf : ℕ → List ℕ → List ℕ
 lastOf room s = pick (leb 16 room && leb 1 (length s)) (lineText s) []
-
--- an area when a text is written over its start
-abbrev pub over : List ℕ → List ℕ → List ℕ
-over text area = text ++ drop (length text) area
 
 -- how many bytes stand before the first newline
 unfoldable pub upto : List ℕ → ℕ

@@ -1,5 +1,7 @@
 -- `corrections::completing::put_digit` meets its contract.
 use mathlib.Core.Path.{refl}
+use Prim.Native.Nat.{_+_}
+use denote.Ref.{now}
 use Rattle.corrections.proofs.Outcomes.{one-over}
 use borrow.Author.Needs.{needs}
 use Rattle.corrections.proofs.completing.put_digit.Statement.{statement}
@@ -18,7 +20,7 @@ same-length : tie.Need-same-length
 same-length c = search needs
 
 returns : tie.Need-returns
-returns c = record { says = refl; now = one-over _ _ (c .pre .1) }
+returns c = record { says = refl; now = one-over (now (c .args .out)) (c .args .check + 48) (c .pre .1) }
 
 pub put-digit-spec : {M : Type 1} → statement M
 put-digit-spec = tie.close (tie.spec cast-digit add-out slice-write-out same-length returns)
