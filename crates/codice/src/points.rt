@@ -12,7 +12,7 @@ pub enum Count {
 }
 
 // Puts the numbers and the places of a text's code points into two areas.
-pub fn take_points(s: &[u8], codes: &mut [u32; 16], places: &mut [usize; 16]) -> Count
+pub(crate) fn take_points(s: &[u8], codes: &mut [u32; 16], places: &mut [usize; 16]) -> Count
     requires { ⌜ (length (now codes) ≡ 16) × (length (now places) ≡ 16) ⌝ }
     ensures { λ r. ⌜ Taken (now (s .entry)) (now (codes .exit)) (now (places .exit)) r ⌝ }
 {

@@ -28,7 +28,7 @@ pub fn reason(f: Finding) -> Reason
 }
 
 // Whether a text fits its form.
-pub fn is_fit(f: Fault) -> bool
+pub(crate) fn is_fit(f: Fault) -> bool
     ensures { λ r. ⌜ r ≡ isFit f ⌝ }
 {
     match f {
@@ -39,7 +39,7 @@ pub fn is_fit(f: Fault) -> bool
 }
 
 // The finding where the form is met.
-pub fn decided(figure: bool) -> Finding
+pub(crate) fn decided(figure: bool) -> Finding
     ensures { λ r. ⌜ r ≡ judged Fits figure ⌝ }
 {
     if figure {

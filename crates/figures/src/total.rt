@@ -37,7 +37,7 @@ fn lead(s: &[u8], last: u32, before: u32, fold: bool) -> u32
 }
 
 // The total by two weights that alternate leftwards from the last digit. It goes from the left, two digits at a time.
-pub fn alternating(s: &[u8], last: u32, before: u32, fold: bool) -> u32
+pub(crate) fn alternating(s: &[u8], last: u32, before: u32, fold: bool) -> u32
     requires { ⌜ all isDigit (now s) ≡ true ⌝ ∗ ⌜ length (now s) ≤ 1024 ⌝ ∗ ⌜ last ≤ 3 ⌝ ∗ ⌜ before ≤ 3 ⌝ }
     ensures { λ r. ⌜ r ≡ total (adds fold (last ∷ before ∷ [])) (now (s .entry)) ⌝ }
 {
@@ -53,7 +53,7 @@ pub fn alternating(s: &[u8], last: u32, before: u32, fold: bool) -> u32
 }
 
 // The total by a table of weights from the right, for no more digits than it has.
-pub fn weighted(s: &[u8], weights: &[u32]) -> u32
+pub(crate) fn weighted(s: &[u8], weights: &[u32]) -> u32
     requires { ⌜ all isDigit (now s) ≡ true ⌝ ∗ ⌜ length (now s) ≤ 11 ⌝ ∗ ⌜ length (now s) ≤ length (now weights) ⌝ ∗ ⌜ all (λ w. leb w 10000000) (now weights) ≡ true ⌝ }
     ensures exact { λ r. ⌜ r ≡ total (adds false (now (weights .entry))) (now (s .entry)) ⌝ }
     ensures bound { λ r. ⌜ r ≤ 90000000 * length (now (s .entry)) ⌝ }
@@ -73,7 +73,7 @@ pub fn weighted(s: &[u8], weights: &[u32]) -> u32
 const ABN: [u32; 11] = [19, 17, 15, 13, 11, 9, 7, 5, 3, 1, 10];
 
 // The exact total of an ABN: from -10 to 980.
-pub fn abn_total(s: &[u8]) -> i64
+pub(crate) fn abn_total(s: &[u8]) -> i64
     requires { ⌜ all isDigit (now s) ≡ true ⌝ ∗ ⌜ length (now s) ≡ 11 ⌝ }
     ensures { λ r. ⌜ r ≡ abnTotal (now (s .entry)) ⌝ }
 {

@@ -13,7 +13,7 @@ use answer::Severity;
 use ascii::is_digit;
 use ascii::wide;
 
-pub fn least(a: usize, b: usize) -> usize
+pub(crate) fn least(a: usize, b: usize) -> usize
     ensures { λ r. ⌜ r ≡ min a b ⌝ }
     ensures { λ r. ⌜ r ≤ a ⌝ }
 {

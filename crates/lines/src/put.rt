@@ -57,7 +57,7 @@ fn put_answer(out: &mut [u8], at: usize, a: Answer) -> usize
 }
 
 // Stores the answer to a line from `at` on, and says where its text ends.
-pub fn put_line(line: &[u8], out: &mut [u8], at: usize) -> usize
+pub(crate) fn put_line(line: &[u8], out: &mut [u8], at: usize) -> usize
     requires { ⌜ at + 16 ≤ length (now out) ⌝ }
     ensures { λ r. ⌜ Stored (now (out .entry)) (now (out .exit)) at r (lineText (now (line .entry))) 16 ⌝ }
 {
