@@ -4,6 +4,7 @@ use mathlib.Core.Bool.{Bool, true, false}
 use mathlib.Core.List.{List, [], _∷_, _++_}
 use Prim.Native.Nat.{ℕ, zero, suc, _+_, _≤_}
 use lib.ListN.{length, take, drop}
+unfoldable pub use Rattle.ascii.specs.Area.{joined}
 use Rattle.corrections.specs.Outcome.{over}
 
 -- f 0, then f 1, .. then f (n - 1), one after another
@@ -15,11 +16,6 @@ each (suc n) f = each n f ++ f n
 unfoldable pub only : Bool → List ℕ → List (List ℕ)
 only true t = t ∷ []
 only false t = []
-
--- the rows one after another, as bytes
-unfoldable pub joined : List (List ℕ) → List ℕ
-joined [] = []
-joined (r ∷ rs) = r ++ joined rs
 
 -- ---- what the inner functions promise of an area
 

@@ -7,6 +7,7 @@ use lib.Dec.{leb, eqb}
 use lib.ListN.{length, take, drop}
 use lib.Seq.{sets}
 pub use Rattle.ascii.specs.Area.{over}
+unfoldable pub use Rattle.ascii.specs.Area.{joined}
 use Rattle.ascii.specs.Pick.{pick}
 use Rattle.ascii.specs.Class.{among}
 use Rattle.lines.specs.Line.{newline}
@@ -88,8 +89,3 @@ writtenAll room kept (c ∷ cs) = writtenOf room (kept ++ c) ++ writtenAll room 
 unfoldable pub keptAll : ℕ → List ℕ → List (List ℕ) → List ℕ
 keptAll room kept [] = kept
 keptAll room kept (c ∷ cs) = keptAll room (keptOf room (kept ++ c)) cs
-
--- the chunks, one after the other
-unfoldable pub joined : List (List ℕ) → List ℕ
-joined [] = []
-joined (c ∷ cs) = c ++ joined cs
