@@ -5,6 +5,7 @@ pub mod corrections;
 pub mod identifiers;
 pub mod inputs;
 pub mod invoice;
+#[path = "../../bindings/rust/src/raw.rs"]
 pub mod library;
 #[allow(unexpected_cfgs)] // the original's feature `sepa`, whose branches are not taken
 pub mod original;

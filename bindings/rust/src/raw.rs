@@ -1,4 +1,4 @@
-//! The functions of libpartyid.a, by their promises in crates/partyid.
+//! The functions of libpartyid as include/partyid.h declares them, with slices for pointers and lengths.
 
 /// The size of the area that a text is written to.
 pub const AREA: usize = 1024;
@@ -45,6 +45,14 @@ pub struct Done {
     pub count: usize,
 }
 
+/// How many lines were answered, and how many bytes of the text they are.
+#[repr(C)]
+#[derive(Clone, Copy, Debug, PartialEq, Eq)]
+pub struct Batch {
+    pub count: usize,
+    pub used: usize,
+}
+
 #[link(name = "partyid", kind = "static")]
 unsafe extern "C" {
     fn partyid_decode(content: *const u8, len: usize, at: usize) -> Point;
@@ -83,6 +91,8 @@ unsafe extern "C" {
         out: *mut u8,
         room: usize,
     ) -> Done;
+    fn partyid_answer_line(line: *const u8, len: usize) -> Answer;
+    fn partyid_answer_lines(text: *const u8, len: usize, out: *mut u32, room: usize) -> Batch;
 }
 
 // Each function takes any bytes: what it asks of a caller, a pointer with its length, is what a slice is.
@@ -162,4 +172,13 @@ pub fn list(scheme: &[u8], content: &[u8], out: &mut [u8]) -> Done {
             out.len(),
         )
     }
+}
+
+pub fn answer_line(line: &[u8]) -> Answer {
+    unsafe { partyid_answer_line(line.as_ptr(), line.len()) }
+}
+
+/// Four numbers for each line, as many lines as there is room for.
+pub fn answer_lines(text: &[u8], out: &mut [u32]) -> Batch {
+    unsafe { partyid_answer_lines(text.as_ptr(), text.len(), out.as_mut_ptr(), out.len()) }
 }

@@ -1,0 +1,165 @@
+/*
+ * partyid.h - checks of party identifiers on invoices, for C11 and C++17.
+ *
+ * Every function takes any bytes and asks nothing of its caller but what a pointer with its length is: so many bytes that may be
+ * read, or written where the area is not const. A pointer whose length is 0 may be null. An area must not overlap another argument.
+ * Nothing is kept between calls and nothing is allocated, so that functions may be called from several threads at once.
+ *
+ * A number that passes says nothing about whether the party exists: a check figure finds slips of the hand, and knows no register.
+ *
+ * Each answer is proved equal to a definition; docs/PROMISES.md names it for each function.
+ */
+#ifndef PARTYID_H
+#define PARTYID_H
+
+#include <stdbool.h>
+#include <stddef.h>
+#include <stdint.h>
+
+#ifdef __cplusplus
+extern "C" {
+#endif
+
+/* The bytes of the area that a text is written to, and the most that a content may have where a rule reads it. */
+#define PARTYID_AREA 1024
+
+/* The most digits of a number that partyid_list takes. */
+#define PARTYID_LIST_DIGITS 20
+
+/* The bytes that partyid_list needs for a number of n digits: room for 2n - 1 entries. */
+#define PARTYID_LIST_ROOM(n) ((2 * (size_t)(n) - 1) * (size_t)(n))
+
+/* The numbers of an answer that partyid_answer_lines writes for each line. */
+#define PARTYID_ANSWER_NUMBERS 4
+
+enum partyid_verdict {
+    PARTYID_VERDICT_NO_RULE = 0,  /* no rule reads such a field */
+    PARTYID_VERDICT_ACCEPTED = 1, /* the rule accepts the content */
+    PARTYID_VERDICT_REFUSED = 2,  /* refused; the reason says why */
+    PARTYID_VERDICT_UNREAD = 3    /* let through unread: the rule is not about such a content */
+};
+
+enum partyid_severity {
+    PARTYID_SEVERITY_NO_SEVERITY = 0, /* no rule */
+    PARTYID_SEVERITY_FATAL = 1,
+    PARTYID_SEVERITY_WARNING = 2
+};
+
+enum partyid_reason {
+    PARTYID_REASON_NO_REASON = 0, /* not refused, or the work is done */
+    PARTYID_REASON_LONG = 1,      /* the content is over 1,024 bytes, where a rule would read it */
+    PARTYID_REASON_UTF8 = 2,      /* it is not well-formed UTF-8, where a rule would read it */
+    PARTYID_REASON_FORM = 3,      /* the form is not met */
+    PARTYID_REASON_CHECK = 4,     /* the form is met and the check figure is wrong */
+    PARTYID_REASON_ZERO = 5,      /* 0192: nine zeros, or a body of eight zeros to complete */
+    PARTYID_REASON_NO_FIGURE = 6, /* 0192: no figure completes the body */
+    PARTYID_REASON_SCHEME = 7,    /* completing or listing of a scheme other than the five */
+    PARTYID_REASON_ROOM = 8,      /* the output area is too short */
+    PARTYID_REASON_GOOD = 9,      /* listing of a number that is accepted */
+    PARTYID_REASON_TERM = 10,     /* the term number is none that a rule reads */
+    PARTYID_REASON_LINE = 11      /* a line whose head is malformed */
+};
+
+/* Whether a scheme code is withdrawn. */
+enum partyid_withdrawal {
+    PARTYID_WITHDRAWAL_NOT_WITHDRAWN = 0,
+    PARTYID_WITHDRAWAL_NO_SUCCESSOR = 1,
+    PARTYID_WITHDRAWAL_SUCCESSOR = 2
+};
+
+/* A code point and how many bytes it takes, 1 to 4; code 0 with length 0 is the refusal. */
+struct partyid_point {
+    uint32_t code;
+    size_t len;
+};
+
+/* What came of a text: a reason, and the length of what stands in the area. */
+struct partyid_text {
+    uint32_t reason; /* enum partyid_reason */
+    size_t len;
+};
+
+/* The answer of a check. The rule is the published number (561 and 562 for R056-1 and R056-2), 0 where there is none. */
+struct partyid_answer {
+    uint32_t verdict;  /* enum partyid_verdict */
+    uint32_t rule;
+    uint32_t severity; /* enum partyid_severity */
+    uint32_t reason;   /* enum partyid_reason */
+};
+
+/* A withdrawn code's answer; the successor is four zeros where there is none. It is not ended by a zero. */
+struct partyid_code {
+    uint32_t answer; /* enum partyid_withdrawal */
+    uint8_t successor[4];
+};
+
+/* What came of a completion or a listing: a reason, and how many digits or entries were written. */
+struct partyid_done {
+    uint32_t reason; /* enum partyid_reason */
+    size_t count;
+};
+
+/* How many lines were answered, and how many bytes of the text they are. */
+struct partyid_batch {
+    size_t count;
+    size_t used;
+};
+
+/* ---- Checks */
+
+/* The check of a field: the scheme's bytes, the number of the business term (29, 30, 31, 34, 46 to 49, 60, 61, 63) and the content. */
+struct partyid_answer partyid_check(const uint8_t *scheme, size_t scheme_len, uint32_t term, const uint8_t *content, size_t content_len);
+
+/* IBAN: 5 to 34 letters or digits once white is removed, and remainder 1 by 97. That is the whole test: no country's length. */
+struct partyid_answer partyid_is_valid_iban_checksum(const uint8_t *content, size_t content_len);
+
+/* Creditor identifier: its form alone. */
+struct partyid_answer partyid_is_valid_creditor_identifier(const uint8_t *content, size_t content_len);
+
+/* Strict GLN: with scheme 0088 exactly 13 digits, as they stand, and the check digit. Any other scheme: no rule. */
+struct partyid_answer partyid_eas_value(const uint8_t *scheme, size_t scheme_len, const uint8_t *content, size_t content_len);
+
+/* Whether a scheme code is withdrawn, and what took its place. */
+struct partyid_code partyid_withdrawn(const uint8_t *code, size_t code_len);
+
+/* ---- Completing and listing: 0088, 0192, 0208, 0007, 0151. A refusal changes no byte of the area. */
+
+/* The check figure that completes a body of digits: one digit, or two for 0208 and 0151, written at the start of an area of at least
+   2 bytes. For 0151 the two digits belong in front of the body, for the others behind it. */
+struct partyid_done partyid_complete(const uint8_t *scheme, size_t scheme_len, const uint8_t *body, size_t body_len, uint8_t *out, size_t out_len);
+
+/* Every number that is as long as a refused number of n digits, is accepted, and differs from it in one digit or by exchanging two
+   unequal neighbours: first the replacements, then the exchanges, each from the left. Each entry is n digits, one after another. The area
+   needs PARTYID_LIST_ROOM(n) bytes, whatever is found; n is the length of the normalised content. Bytes after the last entry stay. */
+struct partyid_done partyid_list(const uint8_t *scheme, size_t scheme_len, const uint8_t *content, size_t content_len, uint8_t *out, size_t out_len);
+
+/* ---- Many lines at once */
+
+/* The answer to one line, without its newline: 4 scheme bytes, space, two digits of term, space, content. Content beyond 1,025 bytes is
+   not read. */
+struct partyid_answer partyid_answer_line(const uint8_t *line, size_t line_len);
+
+/* The answers to the lines of a text, four numbers for each line as in struct partyid_answer, for as many lines as the area has
+   room. A last line without newline counts if it has a byte. Where used is less than text_len, call again with the text from there. */
+struct partyid_batch partyid_answer_lines(const uint8_t *text, size_t text_len, uint32_t *out, size_t out_len);
+
+/* ---- Text */
+
+/* The code point that begins at a byte of a content, by RFC 3629; refused past the end. */
+struct partyid_point partyid_decode(const uint8_t *content, size_t content_len, size_t at);
+
+/* Whether a code point is one of the 25 white ones. */
+bool partyid_is_white(uint32_t c);
+
+/* White at both ends dropped, each inner run of it one space. The text stands at the start of an area of exactly PARTYID_AREA bytes,
+   zeros after it; a refusal (LONG, UTF8) leaves it all zeros. The area must not be null. */
+struct partyid_text partyid_normalize_space(const uint8_t *content, size_t content_len, uint8_t *area);
+
+/* Every white point removed; the area as above. */
+struct partyid_text partyid_strip(const uint8_t *content, size_t content_len, uint8_t *area);
+
+#ifdef __cplusplus
+}
+#endif
+
+#endif
