@@ -1,0 +1,43 @@
+//! Why something is refused.
+
+numbered! {
+    /// Why something is refused. As an error it is never [`Reason::NoReason`].
+    Reason called "reason" {
+        /// Not refused, or the work is done.
+        NoReason = 0 "no reason",
+        /// The content is over 1,024 bytes, where a rule would read it.
+        Long = 1 "the content is over 1,024 bytes",
+        /// The content is not well-formed UTF-8, where a rule would read it.
+        Utf8 = 2 "the content is not well-formed UTF-8",
+        /// The form is not met.
+        Form = 3 "the form is not met",
+        /// The form is met and the check figure is wrong.
+        Check = 4 "the form is met and the check figure is wrong",
+        /// 0192: nine zeros, or a body of eight zeros to complete.
+        Zero = 5 "all digits are zero",
+        /// 0192: no figure completes the body.
+        NoFigure = 6 "no check figure completes the body",
+        /// Completing or listing of a scheme other than the five.
+        Scheme = 7 "the scheme is none that can be completed or listed",
+        /// The output area is too short. The areas of this crate never are.
+        Room = 8 "the output area is too short",
+        /// Listing of a number that is accepted.
+        Good = 9 "the number is accepted, so there is nothing to correct",
+        /// The term number is none that a rule reads.
+        Term = 10 "the term number is none that a rule reads",
+        /// A line whose head is malformed.
+        Line = 11 "the head of the line is malformed",
+    }
+}
+
+impl core::error::Error for Reason {}
+
+impl Reason {
+    /// What a number of the library says of a piece of work: done, or refused for a reason.
+    pub(crate) fn settle(number: u32) -> Result<(), Reason> {
+        match Reason::of_library(number) {
+            Reason::NoReason => Ok(()),
+            reason => Err(reason),
+        }
+    }
+}
