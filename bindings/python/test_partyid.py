@@ -189,6 +189,8 @@ class CommandLine(unittest.TestCase):
         self.assert_says(0, "1 40 1 0  accepted by rule 40", "check", "0088", "17")
         self.assert_says(3, "0 0 0 0  no rule\n", "check", "0060", "x")
         self.assert_says(3, "3 47 2 0  let through unread", "check", "0211", "")
+        self.assert_says(0, "1 46 2 0  accepted", "check", "9907", "12345678901")
+        self.assert_says(3, "0 0 0 0  no rule\n", "check", "9907", "12345678901", "--term", "29")
         self.assert_says(0, "1 562 2 0  accepted", "check", "--term", "31", "", "NL123456789B12")
         self.assert_says(1, "2 0 0 10  refused", "check", "0088", "17", "--term", str(2**32 + 34))
         self.assert_says(0, "1 0 0 0  accepted\n", "iban", "AA750")
