@@ -38,6 +38,15 @@ fn all_lines_are_answered_as_each_is_alone() {
 }
 
 #[test]
+fn the_line_programs_own_lines_have_its_answers() {
+    let lines = include_bytes!("../../../crates/checklines/stdin");
+    let written: String = answer_lines(lines)
+        .map(|answer| answer.numbers().map(|n| n.to_string()).join(" ") + "\n")
+        .collect();
+    assert_eq!(written, include_str!("../../../crates/checklines/stdout"));
+}
+
+#[test]
 fn a_last_line_counts_if_it_has_a_byte() {
     assert_eq!(answer_lines("0088 34 17\n").count(), 1);
     assert_eq!(answer_lines("0088 34 17\n0").count(), 2);
