@@ -1,12 +1,12 @@
--- `cases::commands::show_area` stays within the area.
+-- `examples::commands::show_area` stays within the area.
 use borrow.Author.Needs.{needs}
 use Prim.Native.Nat.{_-_, _≤_}
 use lib.ListN.{length}
-use Rattle.cases.proofs.commands.show_area.Statement.{statement}
-use Rattle.cases.proofs.commands.show_area.Tie as tie
-use Rattle.cases.proofs.commands.show_area.Reads as reads
-use Rattle.cases.proofs.commands.show_area.Lts as lts
-use Rattle.cases.proofs.escape.show.Reads as show-reads
+use Rattle.examples.proofs.commands.show_area.Statement.{statement}
+use Rattle.examples.proofs.commands.show_area.Tie as tie
+use Rattle.examples.proofs.commands.show_area.Reads as reads
+use Rattle.examples.proofs.commands.show_area.Lts as lts
+use Rattle.examples.proofs.escape.show.Reads as show-reads
 use Rattle.io.proofs.write_all.Reads as write-all-reads
 
 abbrev Inv-loop : tie.InvT-loop

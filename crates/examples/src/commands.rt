@@ -148,43 +148,22 @@ fn show_code(code: &[u8]) {
 
 // Which function a command names.
 fn call(command: u8, content: &[u8]) {
-    if command == b'n' {
-        show_text(text::normalize_space(content));
-        return;
+    match command {
+        b'n' => show_text(text::normalize_space(content)),
+        b's' => show_text(text::strip(content)),
+        b'd' => show_steps(content),
+        b'c' => show_check(content),
+        b'f' => show_figure(content),
+        b'i' => show_answer(accounts::is_valid_iban_checksum(content)),
+        b'r' => show_answer(accounts::is_valid_creditor_identifier(content)),
+        b'g' => show_gln(content),
+        b'w' => show_code(content),
+        b'a' => show_answer(lines::answer_line(content)),
+        b'k' | b'l' => show_work(command, content),
+        _ => {
+            io::write_all(STDOUT_FILENO, b" no such command");
+        }
     }
-    if command == b's' {
-        show_text(text::strip(content));
-        return;
-    }
-    if command == b'd' {
-        show_steps(content);
-        return;
-    }
-    if command == b'c' {
-        show_check(content);
-        return;
-    }
-    if command == b'f' {
-        show_figure(content);
-        return;
-    }
-    if command == b'i' {
-        show_answer(accounts::is_valid_iban_checksum(content));
-        return;
-    }
-    if command == b'r' {
-        show_answer(accounts::is_valid_creditor_identifier(content));
-        return;
-    }
-    if command == b'g' {
-        show_gln(content);
-        return;
-    }
-    if command == b'w' {
-        show_code(content);
-        return;
-    }
-    show_work(command, content);
 }
 
 pub fn run(line: &[u8]) {

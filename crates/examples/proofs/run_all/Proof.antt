@@ -1,13 +1,13 @@
--- `cases::run_all` stays within the input.
+-- `examples::run_all` stays within the input.
 use borrow.Author.Needs.{needs}
 use Prim.Native.Nat.{_+_, _-_, _≤_}
 use lib.ListN.{length}
-use Rattle.cases.proofs.run_all.Statement.{statement}
-use Rattle.cases.proofs.run_all.Tie as tie
-use Rattle.cases.proofs.run_all.Reads as reads
-use Rattle.cases.proofs.run_all.Lts as lts
-use Rattle.cases.proofs.commands.run.Reads as run-reads
-use Rattle.cases.proofs.line_end.Reads as line-end-reads
+use Rattle.examples.proofs.run_all.Statement.{statement}
+use Rattle.examples.proofs.run_all.Tie as tie
+use Rattle.examples.proofs.run_all.Reads as reads
+use Rattle.examples.proofs.run_all.Lts as lts
+use Rattle.examples.proofs.commands.run.Reads as run-reads
+use Rattle.examples.proofs.line_end.Reads as line-end-reads
 use Rattle.io.proofs.write_all.Reads as write-all-reads
 
 abbrev Inv-loop : tie.InvT-loop

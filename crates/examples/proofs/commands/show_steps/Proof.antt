@@ -1,12 +1,12 @@
--- `cases::commands::show_steps` ends.
+-- `examples::commands::show_steps` ends.
 use borrow.Author.Needs.{needs}
 use Prim.Native.Nat.{_-_, _≤_}
 use lib.ListN.{length}
-use Rattle.cases.proofs.commands.show_steps.Statement.{statement}
-use Rattle.cases.proofs.commands.show_steps.Tie as tie
-use Rattle.cases.proofs.commands.show_steps.Reads as reads
-use Rattle.cases.proofs.commands.show_steps.Lts as lts
-use Rattle.cases.proofs.commands.show_step.Reads as show-step-reads
+use Rattle.examples.proofs.commands.show_steps.Statement.{statement}
+use Rattle.examples.proofs.commands.show_steps.Tie as tie
+use Rattle.examples.proofs.commands.show_steps.Reads as reads
+use Rattle.examples.proofs.commands.show_steps.Lts as lts
+use Rattle.examples.proofs.commands.show_step.Reads as show-step-reads
 
 abbrev Inv-loop : tie.InvT-loop
 Inv-loop content at₀ at = at ≤ length content

@@ -1,13 +1,13 @@
--- `cases::escape::unescape` stays within the line and the area.
+-- `examples::escape::unescape` stays within the line and the area.
 use borrow.Author.Needs.{needs}
 use Prim.Native.Nat.{_-_, _≤_}
 use mathlib.Core.Path.{_≡_}
 use lib.ListN.{length}
-use Rattle.cases.proofs.escape.unescape.Statement.{statement}
-use Rattle.cases.proofs.escape.unescape.Tie as tie
-use Rattle.cases.proofs.escape.unescape.Reads as reads
-use Rattle.cases.proofs.escape.unescape.Lts as lts
-use Rattle.cases.proofs.escape.take_byte.Reads as take-byte-reads
+use Rattle.examples.proofs.escape.unescape.Statement.{statement}
+use Rattle.examples.proofs.escape.unescape.Tie as tie
+use Rattle.examples.proofs.escape.unescape.Reads as reads
+use Rattle.examples.proofs.escape.unescape.Lts as lts
+use Rattle.examples.proofs.escape.take_byte.Reads as take-byte-reads
 
 abbrev Inv-loop : tie.InvT-loop
 Inv-loop s out₀ n₀ at₀ out n at = (n ≤ 2048) × (at ≤ length s) × (length out ≡ 2048)

@@ -1,11 +1,11 @@
--- `cases::line_end` stays within the input.
+-- `examples::split::word_end` stays within the line.
 use borrow.Author.Needs.{needs}
 use Prim.Native.Nat.{_-_, _≤_}
 use lib.ListN.{length}
-use Rattle.cases.proofs.line_end.Statement.{statement}
-use Rattle.cases.proofs.line_end.Tie as tie
-use Rattle.cases.proofs.line_end.Reads as reads
-use Rattle.cases.proofs.line_end.Lts as lts
+use Rattle.examples.proofs.split.word_end.Statement.{statement}
+use Rattle.examples.proofs.split.word_end.Tie as tie
+use Rattle.examples.proofs.split.word_end.Reads as reads
+use Rattle.examples.proofs.split.word_end.Lts as lts
 
 abbrev Inv-loop : tie.InvT-loop
 Inv-loop s at i₀ i = (at ≤ i) × (i ≤ length s)
@@ -34,8 +34,8 @@ loop-again c = search needs
 returns-2 : tie.Need-returns-2 Inv-loop μ-loop
 returns-2 c = search needs
 
-pub line-end-spec : {M : Type 1} → statement M
-line-end-spec =
+pub word-end-spec : {M : Type 1} → statement M
+word-end-spec =
     tie.close
     (tie.spec
     Inv-loop
