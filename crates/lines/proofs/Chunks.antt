@@ -12,7 +12,7 @@ use Rattle.answer.specs.declared.record.Answer.{Answer}
 use Rattle.answer.specs.Numbers.{verdictNumber, severityNumber, reasonNumber}
 use Rattle.lines.specs.Line.{newline, answerOf}
 use Rattle.lines.specs.Text.{field, decimal, textOf, lineText}
-use Rattle.lines.specs.Stream.{split, linesOf, answersTo, answers}
+use Rattle.lines.specs.Stream.{split, linesOf, inTurn, answersTo, answers}
 use Rattle.lines.specs.Window.{usedOf, writtenOf, clipped, keptOf, lastOf, upto, writtenAll, keptAll, joined}
 use Rattle.lines.proofs.Heads.{answer-cut}
 use Rattle.lines.proofs.Splits.{by, Open, upto-le, split-line, open-take, fronted, lines-open, fronted-first, fronted-alone}
@@ -37,11 +37,11 @@ line-clip p = rw (append-nil (take 1033 p), append-nil p) at (line-cut p [])
 -- ---- answers to lines
 
 answers-first : (l : List ℕ) (ls : List (List ℕ)) → answersTo (l ∷ ls) ≡ lineText l ++ answersTo ls
-unfolding answersTo
+unfolding inTurn
 answers-first l ls = refl
 
 answers-nil : answersTo [] ≡ []
-unfolding answersTo
+unfolding inTurn
 answers-nil = refl
 
 answers-line : (s t : List ℕ) → upto s < length s → answers (s ++ t) ≡ lineText (take (upto s) s) ++ answers (drop (upto s + 1) s ++ t)
@@ -169,7 +169,7 @@ nothing-open room s h e =
     (λ k. omega (arith, upto-le s, ltb-false (upto s) (length s) k))
 
 answers-empty : answers [] ≡ []
-unfolding answersTo split
+unfolding inTurn split
 answers-empty = refl
 
 last-open : (room : ℕ) (s : List ℕ) → 16 ≤ room → Open s → lastOf room (take 1033 s) ≡ answers s

@@ -2,5 +2,7 @@
 pub mod Heads
 pub mod Texts
 pub mod Splits
+pub mod Feeding
 pub mod Windows
+pub mod Batches
 pub mod Chunks

@@ -12,10 +12,11 @@ use lib.Seq.{take-all, take-take, drop-drop, length-take-le, getD-append-add, ge
 use borrow.Author.Tests.{le-leb, lt-leb, ltb-true, ltb-false}
 use Rattle.ascii.specs.Pick.{pick}
 use Rattle.lines.specs.Text.{lineText}
-use Rattle.lines.specs.Stream.{answersTo}
+use Rattle.lines.specs.Stream.{inTurn}
 use Rattle.lines.specs.Window.{ended, fitting, extent, writtenOf, usedOf, clipped, keptOf, lastOf, upto, Stored, Laid, StepRight}
 use Rattle.lines.proofs.Heads.{drop-take, take-least}
 use Rattle.lines.proofs.Texts.{stored-front, stored-behind}
+use Rattle.lines.proofs.Feeding.{Feeding, feeding-on, feeding-laid, laid, part-tail}
 use Rattle.lines.proofs.Splits.{by, Open, upto-le, ended-line, ended-open, among-line, among-open}
 
 -- ---- the lines that fit
@@ -44,7 +45,7 @@ pub stops-open : (room : ℕ) (s : List ℕ) → Open s → Stops room s
 stops-open room s o = ap (fitting room) (ended-open s o) ∙ fitting-none room
 
 pub written-none : (room : ℕ) (s : List ℕ) → Stops room s → writtenOf room s ≡ []
-unfolding writtenOf answersTo
+unfolding writtenOf inTurn
 written-none room s e = rw e
 
 pub used-none : (room : ℕ) (s : List ℕ) → Stops room s → usedOf room s ≡ 0
@@ -58,7 +59,7 @@ module _ (room : ℕ) (s : List ℕ) (n : ℕ) (e : n ≡ upto s) (h : 16 ≤ ro
       ∙ fitting-first room (take n s) (ended (drop (n + 1) s)) h
 
   pub written-line : writtenOf room s ≡ lineText (take n s) ++ writtenOf (room - length (lineText (take n s))) (drop (n + 1) s)
-  unfolding writtenOf answersTo
+  unfolding writtenOf inTurn
   written-line = rw first
 
   pub used-line : usedOf room s ≡ n + 1 + usedOf (room - length (lineText (take n s))) (drop (n + 1) s)
@@ -67,115 +68,29 @@ module _ (room : ℕ) (s : List ℕ) (n : ℕ) (e : n ≡ upto s) (h : 16 ≤ ro
 
 -- ---- feeding, line by line
 
-pub part-tail : (s : List ℕ) (n : ℕ) → take (length s - n) (drop n s) ≡ drop n s
-part-tail s n = take-all (length s - n) (drop n s) (omega (arith, length-drop n s))
+abbrev pub Fed : List ℕ → List ℕ → List ℕ → ℕ → ℕ → Type 0
+Fed s old new used put = Feeding writtenOf usedOf s old new used put
 
-pub part-len : (s : List ℕ) (used : ℕ) → length (take (length s - used) (drop used s)) ≡ length s - used
-part-len s used = rw (part-tail s used, length-drop used s)
-
--- what is written and used in all is what is done and then what remains
-pub record Feeding (s old new : List ℕ) (used put : ℕ) : Type 0 where
-  pub within : used ≤ length s
-  pub fits : put ≤ length new
-  pub size : length new ≡ length old
-  pub writes : writtenOf (length old) s ≡ take put new ++ writtenOf (length old - put) (drop used s)
-  pub uses : usedOf (length old) s ≡ used + usedOf (length old - put) (drop used s)
-  pub stays : drop put new ≡ drop put old
-
-pub feeding-none : (s o : List ℕ) → Feeding s o o 0 0
-feeding-none s o =
-    record {
-      within = omega arith;
-      fits = omega arith;
-      size = refl;
-      writes = rw (sub-zero (length o));
-      uses = rw (sub-zero (length o)) (sym (zero-add (usedOf (length o) s)));
-      stays = refl;
-    }
-
-module _ (s o new new′ rest : List ℕ) (used put put′ n : ℕ) (f : Feeding s o new used put) (er : rest ≡ take (length s - used) (drop used s))
+module _ (s o new new′ rest : List ℕ) (used put put′ n : ℕ) (f : Fed s o new used put) (er : rest ≡ take (length s - used) (drop used s))
     (en : n ≡ upto rest) (h : n < length rest) (room : put + 16 ≤ length new) (st : Stored new new′ put put′ (lineText (take n rest)) 16) where
-  at-rest : drop used s ≡ rest
-  at-rest = sym (er ∙ part-tail s used)
-
-  abbrev text : List ℕ
-  text = lineText (take n rest)
-
   free : 16 ≤ length o - put
   free = omega (arith, f .size)
 
-  room-left : length o - put - length text ≡ length o - put′
-  room-left = omega (arith, st .next)
-
-  rest-left : drop (n + 1) rest ≡ drop (used + n + 1) s
-  rest-left =
-      let k : used + (n + 1) ≡ used + n + 1 = omega arith in
-      ap (drop (n + 1)) (sym at-rest) ∙ drop-drop (n + 1) used s ∙ ap (λ (i : ℕ). drop i s) k
-
-  writes-on : writtenOf (length o) s ≡ take put′ new′ ++ writtenOf (length o - put′) (drop (used + n + 1) s)
-  writes-on =
-      f .writes
-      ∙ ap (λ (l : List ℕ). take put new ++ writtenOf (length o - put) l) at-rest
-      ∙ ap (λ (l : List ℕ). take put new ++ l) (written-line (length o - put) rest n en free h)
-      ∙ sym (append-assoc (take put new) text (writtenOf (length o - put - length text) (drop (n + 1) rest)))
-      ∙ ap (λ (l : List ℕ). l ++ writtenOf (length o - put - length text) (drop (n + 1) rest)) (sym (stored-front new new′ put put′ text 16 st room))
-      ∙ ap (λ (r : ℕ). take put′ new′ ++ writtenOf r (drop (n + 1) rest)) room-left
-      ∙ ap (λ (l : List ℕ). take put′ new′ ++ writtenOf (length o - put′) l) rest-left
-
-  uses-on : usedOf (length o) s ≡ used + n + 1 + usedOf (length o - put′) (drop (used + n + 1) s)
-  uses-on =
-      let q : usedOf (length o - put) (drop used s) ≡ n + 1 + usedOf (length o - put′) (drop (used + n + 1) s) =
-      ap (usedOf (length o - put)) at-rest
-      ∙ used-line (length o - put) rest n en free h
-      ∙ ap (λ (r : ℕ). n + 1 + usedOf r (drop (n + 1) rest)) room-left
-      ∙ ap (λ (l : List ℕ). n + 1 + usedOf (length o - put′) l) rest-left in
-      omega (arith, f .uses, q)
-
-  behind : (l : List ℕ) → drop put′ l ≡ drop (length text) (drop put l)
-  behind l = ap (λ (k : ℕ). drop k l) (st .next) ∙ sym (drop-drop (length text) put l)
-
-  pub feeding-line : Feeding s o new′ (used + n + 1) put′
+  pub feeding-line : Fed s o new′ (used + n + 1) put′
   feeding-line =
-      record {
-        within = omega (arith, ap length er, part-len s used, f .within);
-        fits = omega (arith, st .short, st .size);
-        size = st .size ∙ f .size;
-        writes = writes-on;
-        uses = uses-on;
-        stays =
-            stored-behind new new′ put put′ text 16 st room
-            ∙ behind new
-            ∙ ap (drop (length text)) (f .stays)
-            ∙ sym (behind o);
-      }
+      feeding-on writtenOf usedOf s o new new′ rest (lineText (take n rest)) used (used + n + 1) put put′ (n + 1) 16 f er (omega arith) (omega arith)
+      (written-line (length o - put) rest n en free h)
+      (used-line (length o - put) rest n en free h)
+      room
+      st
 
--- a text that stands at the start of an area
-pub laid : (old new : List ℕ) (count : ℕ) (text : List ℕ) → text ≡ take count new → count ≤ length new → length new ≡ length old
-    → drop count new ≡ drop count old → Laid old new count text
-laid old new count text e h size d =
-    let n : length text ≡ count = ap length e ∙ length-take-le count new h in
-    record {
-      wrote = sym (take-append-drop count new) ∙ rw (← e, d, n);
-      counted = sym n;
-      within = h;
-      size = size;
-      part = sym (length-take-le count new h);
-    }
-
-module _ (s o new : List ℕ) (used put : ℕ) (f : Feeding s o new used put) (stop : Stops (length o - put) (drop used s)) where
+module _ (s o new : List ℕ) (used put : ℕ) (f : Fed s o new used put) (stop : Stops (length o - put) (drop used s)) where
   fed-used : used ≡ usedOf (length o) s
   fed-used = omega (arith, f .uses, used-none (length o - put) (drop used s) stop)
 
-  fed-laid : Laid o new put (writtenOf (length o) s)
-  fed-laid =
-      laid o new put (writtenOf (length o) s)
-      (f .writes ∙ ap (λ (l : List ℕ). take put new ++ l) (written-none (length o - put) (drop used s) stop) ∙ append-nil (take put new))
-      (f .fits)
-      (f .size)
-      (f .stays)
-
   pub fed-right : (used ≡ usedOf (length o) s) × ((used ≤ length s) × Laid o new put (writtenOf (length o) s))
-  fed-right = (fed-used, (f .within, fed-laid))
+  fed-right =
+      (fed-used, (f .within, feeding-laid writtenOf usedOf s o new used put f (written-none (length o - put) (drop used s) stop)))
 
 -- a part that is the whole rest and has no newline
 pub part-open : (s rest : List ℕ) (used n : ℕ) → rest ≡ take (length s - used) (drop used s) → n ≡ upto rest → n ≡ length rest → Open (drop used s)

@@ -3,3 +3,4 @@ pub mod Line
 pub mod Text
 pub mod Stream
 pub mod Window
+pub mod Batch

@@ -21,9 +21,13 @@ split counts (b ∷ s) = pick (eqb b newline) ([] ∷ split counts s) (inFront c
 abbrev pub linesOf : List ℕ → List (List ℕ)
 linesOf s = split true s
 
-unfoldable pub answersTo : List (List ℕ) → List ℕ
-answersTo [] = []
-answersTo (l ∷ ls) = lineText l ++ answersTo ls
+-- what is said of each line, one after the other
+unfoldable pub inTurn : (List ℕ → List ℕ) → List (List ℕ) → List ℕ
+inTurn says [] = []
+inTurn says (l ∷ ls) = says l ++ inTurn says ls
+
+abbrev pub answersTo : List (List ℕ) → List ℕ
+answersTo ls = inTurn lineText ls
 
 abbrev pub answers : List ℕ → List ℕ
 answers s = answersTo (linesOf s)

@@ -36,7 +36,7 @@ fn skip(s: &[u8]) -> usize
 }
 
 // How many bytes of s stand before its first newline; all where there is none.
-fn line_len(s: &[u8]) -> usize
+pub(crate) fn line_len(s: &[u8]) -> usize
     ensures within { λ r. ⌜ r ≤ length (now (s .entry)) ⌝ }
     ensures exact { λ r. ⌜ r ≡ upto (now (s .entry)) ⌝ }
 {

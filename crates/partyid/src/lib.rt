@@ -1,9 +1,12 @@
 // The library for programs in C and Rust: every public function, on any bytes, with numbers for its answer.
+mod batch;
 mod checks;
 mod content;
 mod plain;
 mod work;
 
+pub use batch::partyid_answer_line;
+pub use batch::partyid_answer_lines;
 pub use checks::partyid_check;
 pub use checks::partyid_eas_value;
 pub use checks::partyid_is_valid_creditor_identifier;
@@ -14,6 +17,7 @@ pub use content::partyid_is_white;
 pub use content::partyid_normalize_space;
 pub use content::partyid_strip;
 pub use plain::PartyidAnswer;
+pub use plain::PartyidBatch;
 pub use plain::PartyidCode;
 pub use plain::PartyidDone;
 pub use plain::PartyidPoint;

@@ -47,6 +47,13 @@ pub struct PartyidDone {
     pub count: usize,
 }
 
+// How many lines were answered, and how many bytes of the text they are.
+#[repr(C)]
+pub struct PartyidBatch {
+    pub count: usize,
+    pub used: usize,
+}
+
 pub(crate) fn point(s: Step) -> PartyidPoint
     ensures { λ r. ⌜ r ≡ plainPoint s ⌝ }
 {

@@ -5,8 +5,10 @@ use native.Mathlib.Omega.{arith}
 use borrow.Author.Needs.{needs}
 use lib.ListN.{length, take, drop}
 use lib.Seq.{length-take-le}
+use Rattle.lines.specs.Window.{writtenOf, usedOf}
 use Rattle.lines.proofs.Splits.{open-end}
-use Rattle.lines.proofs.Windows.{Feeding, feeding-none, feeding-line, stops-full, stops-open, fed-right, part-len, part-open}
+use Rattle.lines.proofs.Feeding.{feeding-none, part-len}
+use Rattle.lines.proofs.Windows.{Fed, feeding-line, stops-full, stops-open, fed-right, part-open}
 use Rattle.lines.proofs.window.feed.Statement.{statement}
 use Rattle.lines.proofs.window.feed.Tie as tie
 use Rattle.lines.proofs.window.feed.Reads as reads
@@ -15,13 +17,13 @@ use Rattle.lines.proofs.put.put_line.Reads as put-line-reads
 use Rattle.lines.proofs.window.line_len.Reads as line-len-reads
 
 abbrev Inv-loop : tie.InvT-loop
-Inv-loop s out₀ used₀ put₀ out used put = Feeding s out₀ out used put
+Inv-loop s out₀ used₀ put₀ out used put = Fed s out₀ out used put
 
 abbrev μ-loop : tie.MeasureT-loop
 μ-loop s out₀ used₀ put₀ out used put = length s - used
 
 loop-holds : tie.Need-loop-holds Inv-loop μ-loop
-loop-holds c = feeding-none (c .before .before .args .s .now) (c .before .before .args .out .now)
+loop-holds c = feeding-none writtenOf usedOf (c .before .before .args .s .now) (c .before .before .args .out .now)
 
 sub-if1 : tie.Need-sub-if1 Inv-loop μ-loop
 sub-if1 c = c .before .loop .inv .fits

@@ -1,0 +1,76 @@
+// Many lines at once, answered in numbers.
+ghost use mathlib.Core.Path.{_≡_};
+ghost use Prim.Native.Nat.{_+_, _≤_, min};
+ghost use lib.ListN.{length};
+ghost use Rattle.lines.specs.Batch.{fourNumbers, lineNumbers, BatchRight};
+ghost use Rattle.lines.specs.Window.{Stored};
+use super::line::answer_line;
+use super::window::line_len;
+use answer::Answer;
+
+fn put_four(out: &mut [u32], at: usize, a: Answer) -> usize
+    requires { ⌜ at + 4 ≤ length (now out) ⌝ }
+    ensures { λ r. ⌜ Stored (now (out .entry)) (now (out .exit)) at r (fourNumbers a) 4 ⌝ }
+{
+    let verdict = a.verdict;
+    let rule = a.rule;
+    let severity = a.severity;
+    let reason = a.reason;
+    let v = verdict.number();
+    let s = severity.number();
+    let w = reason.number();
+    let k = at + 1;
+    let m = k + 1;
+    let n = m + 1;
+    out[at] = v;
+    out[k] = rule;
+    out[m] = s;
+    out[n] = w;
+    n + 1
+}
+
+fn put_numbers(line: &[u8], out: &mut [u32], at: usize) -> usize
+    requires { ⌜ at + 4 ≤ length (now out) ⌝ }
+    ensures { λ r. ⌜ Stored (now (out .entry)) (now (out .exit)) at r (lineNumbers (now (line .entry))) 4 ⌝ }
+{
+    let a = answer_line(line);
+    put_four(out, at, a)
+}
+
+// A line's bytes with its newline; a last line may have none.
+fn with_newline(n: usize, most: usize) -> usize
+    requires { ⌜ n ≤ most ⌝ }
+    ensures { λ r. ⌜ r ≡ min (n + 1) most ⌝ }
+{
+    if n < most { n + 1 } else { n }
+}
+
+// How many lines were answered, and how many bytes of the text they are.
+pub struct Batch {
+    pub count: usize,
+    pub used: usize,
+}
+
+// Answers the lines of s, one after the other, as long as out has room for four numbers.
+pub fn answer_lines(s: &[u8], out: &mut [u32]) -> Batch
+    ensures { λ r. ⌜ BatchRight (now (s .entry)) (now (out .entry)) (now (out .exit)) (r .count) (r .used) ⌝ }
+{
+    let mut used = 0;
+    let mut put = 0;
+    while used < s.len() {
+        if out.len() - put < 4 {
+            return Batch {
+                count: put / 4,
+                used,
+            };
+        }
+        let rest = &s[used..];
+        let n = line_len(rest);
+        put = put_numbers(&rest[..n], out, put);
+        used += with_newline(n, rest.len());
+    }
+    Batch {
+        count: put / 4,
+        used,
+    }
+}

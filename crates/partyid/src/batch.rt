@@ -1,0 +1,26 @@
+// Lines: one, and many at once.
+ghost use mathlib.Core.Path.{_≡_};
+ghost use Rattle.lines.specs.Line.{answerOf};
+ghost use Rattle.lines.specs.Batch.{BatchRight};
+ghost use Rattle.partyid.specs.Plain.{plainAnswer};
+use super::plain::PartyidAnswer;
+use super::plain::PartyidBatch;
+use super::plain::answer_numbers;
+
+#[no_mangle]
+pub extern "C" fn partyid_answer_line(line: &[u8]) -> PartyidAnswer
+    ensures { λ r. ⌜ r ≡ plainAnswer (answerOf (now (line .entry))) ⌝ }
+{
+    answer_numbers(lines::answer_line(line))
+}
+
+#[no_mangle]
+pub extern "C" fn partyid_answer_lines(text: &[u8], out: &mut [u32]) -> PartyidBatch
+    ensures { λ r. ⌜ BatchRight (now (text .entry)) (now (out .entry)) (now (out .exit)) (r .count) (r .used) ⌝ }
+{
+    let done = lines::answer_lines(text, out);
+    PartyidBatch {
+        count: done.count,
+        used: done.used,
+    }
+}
