@@ -1,4 +1,5 @@
 // The commands, by their first letter: what each calls, and how its answer is written.
+use super::batch::show_batch;
 use super::escape::show;
 use super::escape::unescape;
 use super::show::number;
@@ -159,6 +160,7 @@ fn call(command: u8, content: &[u8]) {
         b'g' => show_gln(content),
         b'w' => show_code(content),
         b'a' => show_answer(lines::answer_line(content)),
+        b'b' => show_batch(content),
         b'k' | b'l' => show_work(command, content),
         _ => {
             io::write_all(STDOUT_FILENO, b" no such command");

@@ -63,3 +63,14 @@ pub fn decimal(s: &[u8]) -> u32 {
     }
     n as u32
 }
+
+// A number, or the most that it may be.
+pub fn at_most(n: u32, most: usize) -> usize
+    ensures { λ r. ⌜ r ≤ most ⌝ }
+{
+    let n = n as usize;
+    if most < n {
+        return most;
+    }
+    n
+}

@@ -1,23 +1,13 @@
 // Completing and listing, in an area of dots, which is shown whole.
-ghost use mathlib.Core.Path.{_≡_};
-ghost use lib.ListN.{length};
 ghost use Prim.Native.Nat.{_≤_};
 use super::escape::show;
 use super::show::number;
+use super::split::at_most;
 use super::split::behind;
 use super::split::decimal;
 use super::split::word_end;
 use corrections::Done;
 use libc::STDOUT_FILENO;
-
-fn at_most_1024(n: u32) -> usize
-    ensures { λ r. ⌜ r ≤ 1024 ⌝ }
-{
-    if 1024 < n {
-        return 1024;
-    }
-    n as usize
-}
 
 fn show_done(done: Done, area: &[u8]) {
     let reason = done.reason;
@@ -51,7 +41,7 @@ pub fn show_work(command: u8, field: &[u8]) {
     let scheme_end = word_end(field, scheme_start);
     let start = behind(field, scheme_end);
     let n = field.len();
-    let room = at_most_1024(decimal(&field[0..room_end]));
+    let room = at_most(decimal(&field[0..room_end]), 1024);
     show_in(
         command,
         room,

@@ -67,7 +67,7 @@ pub fn parts() -> Vec<Part> {
 fn account(r: &mut Random, good: &[Vec<u8>], original: fn(&[u8]) -> Answer) -> Example {
     let content = draw::content(r, good);
     let answer = original(&content);
-    Example::answered(String::new(), content, answer)
+    Example::answered(Vec::new(), content, answer)
 }
 
 fn gln(r: &mut Random, good: &[Vec<u8>]) -> Example {
@@ -78,11 +78,7 @@ fn gln(r: &mut Random, good: &[Vec<u8>]) -> Example {
     };
     let content = draw::content(r, good);
     let answer = accounts::eas_value(scheme.as_bytes(), &content);
-    Example::answered(
-        format!("{} ", written::escaped(scheme.as_bytes())),
-        content,
-        answer,
-    )
+    Example::answered(format!("{scheme} ").into_bytes(), content, answer)
 }
 
 /// A withdrawn code, or one damaged, or a number beside them.
@@ -97,7 +93,7 @@ fn withdrawn(r: &mut Random, _: &[Vec<u8>]) -> Example {
     }
     let code = accounts::withdrawn(&content);
     Example {
-        head: String::new(),
+        head: Vec::new(),
         content,
         answer: written::code(code),
         outcome: ["not withdrawn", "no successor", "successor"][code.answer as usize],

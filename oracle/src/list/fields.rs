@@ -5,7 +5,6 @@ use oracle::rules;
 
 use crate::draw;
 use crate::part::{AT_THE_LIMIT, Example, PAST_THE_LIMIT, Part};
-use crate::written::escaped;
 
 /// A rule's published number, its scheme, and the terms at which it is read.
 pub type Field = (u32, &'static str, &'static [u32]);
@@ -82,8 +81,7 @@ fn rule((number, scheme, terms): Field) -> Part {
 
 fn check(scheme: &str, term: u32, content: Vec<u8>) -> Example {
     let answer = rules::answer(scheme.as_bytes(), term, &content);
-    let head = format!("{} {term} ", escaped(scheme.as_bytes()));
-    Example::answered(head, content, answer)
+    Example::answered(format!("{scheme} {term} ").into_bytes(), content, answer)
 }
 
 fn no_rule(r: &mut Random, _: &[Vec<u8>]) -> Example {

@@ -1,4 +1,4 @@
-//! Lines: fields with a head.
+//! Lines, which are fields with a head, and texts of many lines.
 
 use oracle::lines;
 use oracle::random::Random;
@@ -6,10 +6,12 @@ use oracle::random::Random;
 use crate::draw;
 use crate::fields::FIELDS;
 use crate::part::{AT_THE_LIMIT, Example, PAST_THE_LIMIT, Part};
-use crate::written::escaped;
+use crate::written;
 
-pub fn parts() -> Vec<Part> {
-    vec![line()]
+pub fn parts() -> Result<Vec<Part>, String> {
+    let line = line();
+    let lines = line.examples(0)?.iter().map(Example::whole).collect();
+    Ok(vec![line, batch(lines)])
 }
 
 fn line() -> Part {
@@ -35,7 +37,7 @@ fn line() -> Part {
             draw::content(r, good)
         };
         let answer = lines::answer_line(&[&head[..], &content].concat());
-        Example::answered(escaped(&head), content, answer)
+        Example::answered(head, content, answer)
     })
 }
 
@@ -50,4 +52,39 @@ fn line_head(r: &mut Random) -> Vec<u8> {
         _ => {}
     }
     head
+}
+
+/// Texts of the given lines, with room for more or for fewer numbers than their answers are.
+fn batch(all: Vec<Vec<u8>>) -> Part {
+    let wanted = [
+        ("every line", 80),
+        ("some lines", 80),
+        ("no line", 20),
+        ("no text", 5),
+        (PAST_THE_LIMIT, 3),
+    ];
+    Part::new('b', "texts of many lines", &wanted, move |r, _| {
+        let some: Vec<Vec<u8>> = (0..r.below(5)).map(|_| r.among(&all).clone()).collect();
+        let mut text = some.join(&b'\n');
+        if r.one_in(2) {
+            text.push(b'\n');
+        }
+        answered(text, r.below(21))
+    })
+    .up_to(200)
+}
+
+fn answered(text: Vec<u8>, room: usize) -> Example {
+    let (done, numbers) = lines::answer_lines(&text, room);
+    Example {
+        head: format!("{room} ").into_bytes(),
+        answer: written::batch(done, &numbers, room),
+        outcome: match done.used {
+            _ if text.is_empty() => "no text",
+            0 => "no line",
+            used if used < text.len() => "some lines",
+            _ => "every line",
+        },
+        content: text,
+    }
 }

@@ -49,10 +49,11 @@ fn made() -> Result<List, String> {
         examples: String::new(),
         answers: String::new(),
     };
-    for (part, seed) in parts().into_iter().zip(1..) {
-        for (example, answer) in part.examples(seed)? {
-            list.examples += &format!("{example}\n");
-            list.answers += &format!("{example} =>{answer}\n");
+    for (part, seed) in parts()?.into_iter().zip(1..) {
+        for example in part.examples(seed)? {
+            let line = part.line(&example);
+            list.examples += &format!("{line}\n");
+            list.answers += &format!("{line} =>{}\n", example.answer);
         }
         println!("{part}");
     }
@@ -60,15 +61,15 @@ fn made() -> Result<List, String> {
     Ok(list)
 }
 
-fn parts() -> Vec<Part> {
+fn parts() -> Result<Vec<Part>, String> {
     let parts = [
         text::parts(),
         fields::parts(),
         accounts::parts(),
         work::parts(),
-        lines::parts(),
+        lines::parts()?,
     ];
-    parts.into_iter().flatten().collect()
+    Ok(parts.into_iter().flatten().collect())
 }
 
 impl List {

@@ -2,7 +2,6 @@
 
 use std::collections::BTreeSet;
 use std::fmt;
-use std::ops::Range;
 
 use oracle::library::Answer;
 use oracle::random::Random;
@@ -11,7 +10,7 @@ use crate::written::{self, REASONS, escaped};
 
 /// A content with the words before it, what the oracle answers, and what that counts as.
 pub struct Example {
-    pub head: String,
+    pub head: Vec<u8>,
     pub content: Vec<u8>,
     pub answer: String,
     pub outcome: &'static str,
@@ -26,10 +25,12 @@ pub struct Part {
     about: String,
     /// Every outcome there is, and how many examples of it.
     wanted: Vec<(&'static str, usize)>,
+    /// The most bytes of a content, but for those at the limit.
+    most: usize,
     draw: Draw,
 }
 
-/// The outcome of a content of just 1,024 bytes, whatever the answer, and of a longer one that is not LONG.
+/// What a content of just 1,024 bytes counts as, whatever the answer, and a longer one that is not LONG.
 pub const AT_THE_LIMIT: &str = "1,024 bytes";
 pub const PAST_THE_LIMIT: &str = "more than 1,024 bytes";
 
@@ -42,8 +43,11 @@ const FOUNDERS: usize = 18;
 /// After so many draws an outcome that is still short counts as one that does not come up.
 const DRAWS: usize = 3_000_000;
 
-/// Contents of these lengths show nothing that shorter ones do not, and make the list large.
-const TOO_LONG: Range<usize> = 60..1024;
+/// Longer contents, up to the limit, show nothing that shorter ones do not, and make the list large.
+const MOST: usize = 59;
+
+/// How much the programs read of a line.
+const ROOM: usize = 2048;
 
 impl Part {
     pub fn new(
@@ -56,29 +60,34 @@ impl Part {
             command,
             about: about.to_owned(),
             wanted: wanted.to_vec(),
+            most: MOST,
             draw: Box::new(draw),
         }
     }
 
-    /// Each example's line, and its answer; or what is wrong with the part.
-    pub fn examples(&self, seed: u64) -> Result<Vec<(String, String)>, String> {
+    /// With contents of so many bytes.
+    pub fn up_to(self, most: usize) -> Self {
+        Self { most, ..self }
+    }
+
+    /// The examples, no two alike; or what is wrong with the part.
+    pub fn examples(&self, seed: u64) -> Result<Vec<Example>, String> {
         let mut r = Random::new(seed);
         let founders = self.founders(&mut r);
         let mut left = self.wanted.clone();
         let mut seen = BTreeSet::new();
-        let mut lines = Vec::new();
+        let mut examples = Vec::new();
         for _ in 0..DRAWS {
             if left.iter().all(|&(_, n)| n == 0) {
-                return Ok(lines);
+                return Ok(examples);
             }
             let example = (self.draw)(&mut r, &founders);
-            let line = example.line(self.command);
-            if example.is_too_long() || seen.contains(&line) {
+            if self.is_too_long(&example) || seen.contains(&example.whole()) {
                 continue;
             }
             if self.take(&mut left, example.counts_as())? {
-                seen.insert(line.clone());
-                lines.push((line, example.answer));
+                seen.insert(example.whole());
+                examples.push(example);
             }
         }
         left.retain(|&(_, n)| n != 0);
@@ -93,7 +102,7 @@ impl Part {
         }
         std::iter::repeat_with(|| (self.draw)(r, &[]))
             .take(DRAWS)
-            .filter(|example| is_good(example.counts_as()) && !example.is_too_long())
+            .filter(|example| is_good(example.counts_as()) && !self.is_too_long(example))
             .map(|example| example.content)
             .take(FOUNDERS)
             .collect()
@@ -102,11 +111,24 @@ impl Part {
     /// Whether an example of the outcome is still wanted. An outcome that is not listed is an error.
     fn take(&self, left: &mut [(&str, usize)], outcome: &str) -> Result<bool, String> {
         let Some((_, n)) = left.iter_mut().find(|(name, _)| *name == outcome) else {
-            return Err(format!("{self}\nnot listed: {outcome}"));
+            return match outcome {
+                AT_THE_LIMIT | PAST_THE_LIMIT => Ok(false),
+                _ => Err(format!("{self}\nnot listed: {outcome}")),
+            };
         };
         let is_wanted = 0 < *n;
         *n = n.saturating_sub(1);
         Ok(is_wanted)
+    }
+
+    fn is_too_long(&self, example: &Example) -> bool {
+        let length = example.content.len();
+        (self.most + 1..1024).contains(&length) || ROOM < example.whole().len()
+    }
+
+    /// An example as it stands in the list.
+    pub fn line(&self, example: &Example) -> String {
+        format!("{} {}", self.command, escaped(&example.whole()))
     }
 }
 
@@ -120,7 +142,7 @@ impl fmt::Display for Part {
 
 impl Example {
     /// An example whose answer is the four numbers.
-    pub fn answered(head: String, content: Vec<u8>, answer: Answer) -> Self {
+    pub fn answered(head: Vec<u8>, content: Vec<u8>, answer: Answer) -> Self {
         Self {
             head,
             content,
@@ -134,12 +156,8 @@ impl Example {
         }
     }
 
-    fn line(&self, command: char) -> String {
-        format!("{command} {}{}", self.head, escaped(&self.content))
-    }
-
-    fn is_too_long(&self) -> bool {
-        TOO_LONG.contains(&self.content.len())
+    pub fn whole(&self) -> Vec<u8> {
+        [&self.head[..], &self.content].concat()
     }
 
     fn counts_as(&self) -> &'static str {

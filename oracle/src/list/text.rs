@@ -63,7 +63,7 @@ fn steps(content: Vec<u8>) -> Example {
         _ => "1 byte",
     };
     Example {
-        head: String::new(),
+        head: Vec::new(),
         content,
         answer,
         outcome,
@@ -100,7 +100,7 @@ fn changed(r: &mut Random, original: fn(&[u8]) -> (Text, String)) -> Example {
     }
     let (head, text) = original(&content);
     Example {
-        head: String::new(),
+        head: Vec::new(),
         outcome: outcome(&content, head, &text),
         answer: written::text(head, &text),
         content,

@@ -8,7 +8,7 @@ use oracle::text;
 
 use crate::draw;
 use crate::part::{AT_THE_LIMIT, Example, PAST_THE_LIMIT, Part};
-use crate::written::{self, REASONS, escaped};
+use crate::written::{self, REASONS};
 
 pub fn parts() -> Vec<Part> {
     let mut parts: Vec<Part> = FIVE.iter().map(complete).collect();
@@ -100,7 +100,7 @@ type Work = fn(&[u8], &[u8], usize) -> (Done, String);
 fn worked(scheme: &str, content: Vec<u8>, room: usize, work: Work) -> Example {
     let (done, written) = work(scheme.as_bytes(), &content, room);
     Example {
-        head: format!("{room} {} ", escaped(scheme.as_bytes())),
+        head: format!("{room} {scheme} ").into_bytes(),
         content,
         answer: written::work(done, &written, room),
         outcome: match done {

@@ -1,6 +1,6 @@
 //! Contents and answers as the programs of the gate read and write them.
 
-use oracle::library::{Answer, Code, Done, Point, Text};
+use oracle::library::{Answer, Batch, Code, Done, Point, Text};
 
 /// Plain ASCII as it is; any other byte, and `\`, as `\` and two hexadecimal digits.
 pub fn escaped(content: &[u8]) -> String {
@@ -52,4 +52,11 @@ pub fn code(code: Code) -> String {
 /// The numbers and the whole area, which was filled with dots.
 pub fn work(done: Done, written: &str, room: usize) -> String {
     format!(" {} {} {written:.<room$}", done.reason, done.count)
+}
+
+/// The numbers of a batch and the whole area, which was filled with a number that no answer has.
+pub fn batch(done: Batch, numbers: &[u32], room: usize) -> String {
+    let area = numbers.iter().copied().chain(std::iter::repeat(999));
+    let area: String = area.take(room).map(|n| format!(" {n}")).collect();
+    format!(" {} {}{area}", done.count, done.used)
 }
