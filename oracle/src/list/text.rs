@@ -14,7 +14,6 @@ pub fn parts() -> Vec<Part> {
 }
 
 fn decode() -> Part {
-    let short = short();
     let wanted = [
         ("ill-formed", 130),
         ("1 byte", 30),
@@ -25,9 +24,9 @@ fn decode() -> Part {
         ("2 bytes, white", 10),
         ("3 bytes, white", 30),
     ];
-    Part::new('d', "by the longest point", &wanted, move |r, _| {
-        let mut content = r.among(&short).clone();
-        if r.one_in(3) {
+    Part::new('d', "by the longest point", &wanted, |r, _| {
+        let mut content = spelled(r);
+        if r.one_in(2) {
             inputs::random(r, &mut content);
             content.truncate(8);
         }
@@ -35,16 +34,30 @@ fn decode() -> Part {
     })
 }
 
-/// One in a hundred of the short contents that every run of the oracle compares.
-fn short() -> Vec<Vec<u8>> {
-    let mut r = Random::new(1);
-    let mut found = Vec::new();
-    inputs::fixed(&mut |content| {
-        if content.len() <= 8 && r.one_in(100) {
-            found.push(content.to_vec());
-        }
-    });
-    found
+/// The ends of the rows of RFC 3629, of what it leaves out among them, and of the numbers that four bytes could spell.
+const ENDS: [u32; 16] = [
+    0, 0x7f, 0x80, 0x7ff, 0x800, 0xfff, 0x1000, 0xd7ff, 0xd800, 0xdfff, 0xe000, 0xffff, 0x1_0000,
+    0x10_ffff, 0x11_0000, 0x1f_ffff,
+];
+
+/// A number in two to four bytes, where they could spell it, well-formed or not, behind a letter; it may lack its last byte.
+fn spelled(r: &mut Random) -> Vec<u8> {
+    let c = match r.below(3) {
+        0 => r.below(0x20_0000) as u32,
+        1 => r.below(0x1_0000) as u32,
+        _ => *r.among(&ENDS),
+    };
+    let tail = |shift: u32| 0x80 | (c >> shift & 0x3f) as u8;
+    let mut content = match (c, r.below(3)) {
+        (0..0x800, 0) => vec![b'a', 0xc0 | (c >> 6) as u8, tail(0)],
+        (0..0x1_0000, 0..2) => vec![b'a', 0xe0 | (c >> 12) as u8, tail(6), tail(0)],
+        _ => vec![b'a', 0xf0 | (c >> 18) as u8, tail(12), tail(6), tail(0)],
+    };
+    match r.below(5) {
+        0 => drop(content.pop()),
+        _ => content.push(b'b'),
+    }
+    content
 }
 
 /// The step of decoding at each place and at the end.
