@@ -7,10 +7,10 @@ pub struct Identifier {
 }
 
 impl Identifier {
-    pub fn schemed(content: &str, scheme: &str) -> Self {
+    pub fn new(content: &str, scheme: Option<&str>) -> Self {
         Self {
             content: content.to_owned(),
-            scheme: Some(scheme.to_owned()),
+            scheme: scheme.map(str::to_owned),
         }
     }
 
@@ -52,8 +52,8 @@ pub struct Invoice {
 
 impl Invoice {
     /// An invoice with one field, at the term of its number; `None` where no rule reads that term.
-    pub fn with_field(scheme: &str, term: u32, content: &str) -> Option<Self> {
-        let id = || Some(Identifier::schemed(content, scheme));
+    pub fn with_field(scheme: Option<&str>, term: u32, content: &str) -> Option<Self> {
+        let id = || Some(Identifier::new(content, scheme));
         let vat = || Some(content.to_owned());
         let mut inv = Self::default();
         match term {

@@ -1,16 +1,17 @@
-//! The proved library beside the Rust that it was carried over from.
+//! The proved library beside the Rust that it was carried over from: what the original answers, and contents to compare the two on.
 
 pub mod accounts;
+pub mod answers;
 pub mod corrections;
 pub mod identifiers;
 pub mod inputs;
 pub mod invoice;
 #[path = "../../bindings/rust/src/raw.rs"]
 pub mod library;
+pub mod lines;
 #[allow(unexpected_cfgs)] // the original's feature `sepa`, whose branches are not taken
 pub mod original;
 pub mod random;
-pub mod report;
 pub mod rules;
 pub mod text;
 

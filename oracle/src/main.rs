@@ -1,11 +1,15 @@
 //! Compares the proved library with the Rust original: `oracle [COUNT] [SEED]`.
 
+mod compare;
+
 use std::process::ExitCode;
 use std::time::Instant;
 
+use oracle::inputs;
 use oracle::random::Random;
-use oracle::report::Report;
-use oracle::{accounts, corrections, inputs, rules, text};
+
+use compare::report::Report;
+use compare::{accounts, corrections, rules, text};
 
 fn main() -> ExitCode {
     let count = argument(1, 1_000_000);

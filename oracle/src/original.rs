@@ -773,6 +773,14 @@ pub mod open {
         super::castable_integer(s)
     }
 
+    pub fn all_digits(s: &str) -> bool {
+        super::all_digits(s)
+    }
+
+    pub fn n_digits(s: &str, n: usize) -> bool {
+        super::n_digits(s, n)
+    }
+
     /// The stripped text, by the first line of `is_valid_iban_checksum`.
     pub fn stripped(s: &str) -> String {
         s.chars().filter(|c| !c.is_whitespace()).collect()

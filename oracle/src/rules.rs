@@ -1,104 +1,99 @@
-//! The seventeen rules: the field check against the original's rules on an invoice with one field.
+//! The field check as the original's seventeen rules give it, each on an invoice with that field alone.
 
+use crate::answers::{CHECK, FORM, NO_RULE, TERM, ZERO, accepted, readable, refused, unread};
 use crate::invoice::{Invoice, Rule, Severity};
-use crate::library::{self, AREA, Answer};
-use crate::original::COMMON;
-use crate::report::{Difference, Row, Subject, same};
+use crate::library::Answer;
+use crate::original::{COMMON, open};
 
-const LONG: u32 = 1;
-const UTF8: u32 = 2;
-
-/// A rule's published number and scheme, and a term at which it applies, in the order of `COMMON`.
-pub const FIELDS: [(u32, &str, u32); 17] = [
-    (40, "0088", 34),
-    (41, "0192", 29),
-    (42, "0184", 30),
-    (43, "0208", 46),
-    (44, "0201", 47),
-    (45, "0210", 49),
-    (46, "9907", 34),
-    (47, "0211", 60),
-    (49, "0007", 61),
-    (50, "0151", 34),
-    (52, "0096", 29),
-    (53, "0198", 30),
-    (54, "0106", 46),
-    (55, "0190", 47),
-    (561, "9944", 49),
-    (562, "", 31),
-    (57, "0217", 60),
-];
-
-static OUTCOMES: [&str; 5] = ["LONG", "UTF8", "accepted", "refused", "let through"];
-
-pub fn subjects() -> Vec<Subject> {
-    vec![
-        subject("rule 40", rule::<0>),
-        subject("rule 41", rule::<1>),
-        subject("rule 42", rule::<2>),
-        subject("rule 43", rule::<3>),
-        subject("rule 44", rule::<4>),
-        subject("rule 45", rule::<5>),
-        subject("rule 46", rule::<6>),
-        through("rule 47", rule::<7>),
-        subject("rule 49", rule::<8>),
-        subject("rule 50", rule::<9>),
-        subject("rule 52", rule::<10>),
-        subject("rule 53", rule::<11>),
-        subject("rule 54", rule::<12>),
-        subject("rule 55", rule::<13>),
-        subject("rule 561", rule::<14>),
-        through("rule 562", rule::<15>),
-        subject("rule 57", rule::<16>),
-    ]
-}
-
-type Compare = fn(&[u8], &mut Row) -> Result<(), Difference>;
-
-fn subject(function: &'static str, compare: Compare) -> Subject {
-    Subject {
-        function,
-        outcomes: &OUTCOMES[..4],
-        compare,
+/// The answer to a field: its scheme, the number of its term and its content.
+pub fn answer(scheme: &[u8], term: u32, content: &[u8]) -> Answer {
+    let scheme = held(scheme);
+    if Invoice::with_field(scheme, term, "").is_none() {
+        return refused(0, 0, TERM);
+    }
+    match rule_for(scheme, term) {
+        Some(rule) => answer_by(rule, scheme, term, content),
+        None => NO_RULE,
     }
 }
 
-/// A rule that lets some contents through unread.
-fn through(function: &'static str, compare: Compare) -> Subject {
-    Subject {
-        outcomes: &OUTCOMES,
-        ..subject(function, compare)
-    }
+/// A scheme as the original can hold it. Bytes that are not UTF-8 are none of its codes: an identifier without a scheme stands for them.
+pub fn held(scheme: &[u8]) -> Option<&str> {
+    str::from_utf8(scheme).ok()
 }
 
-fn rule<const I: usize>(content: &[u8], row: &mut Row) -> Result<(), Difference> {
-    let (number, scheme, term) = FIELDS[I];
-    let answer = library::check(scheme.as_bytes(), term, content);
-    same(
-        (answer.rule, answer.severity),
-        (number, severity(COMMON[I])),
-    )?;
-    if AREA < content.len() {
-        return refused(answer, LONG, row, 0);
-    }
-    let Ok(text) = str::from_utf8(content) else {
-        return refused(answer, UTF8, row, 1);
+/// The rule that reads a field: the one that reports a content there which no rule about such fields lets pass.
+pub fn rule_for(scheme: Option<&str>, term: u32) -> Option<&'static Rule> {
+    ["IT", "NL"]
+        .iter()
+        .find_map(|bad| reporting(scheme, term, bad).next())
+}
+
+/// Every rule that reports a field.
+pub fn reporting(
+    scheme: Option<&str>,
+    term: u32,
+    content: &str,
+) -> impl Iterator<Item = &'static Rule> {
+    let inv = Invoice::with_field(scheme, term, content).unwrap_or_default();
+    COMMON.into_iter().filter(move |rule| rule.refuses(&inv))
+}
+
+/// The answer of the rule that reads the field.
+pub fn answer_by(rule: &Rule, scheme: Option<&str>, term: u32, content: &[u8]) -> Answer {
+    let (number, severity) = (number(rule), severity(rule));
+    let text = match readable(content) {
+        Ok(text) => text,
+        Err(reason) => return refused(number, severity, reason),
     };
-    let inv = Invoice::with_field(scheme, term, text).expect("a term of a rule");
-    same(answer.verdict == 2, COMMON[I].refuses(&inv))?;
-    same(answer.reason == 0, answer.verdict != 2)?;
-    row.count(1 + answer.verdict as usize);
-    Ok(())
+    let inv = Invoice::with_field(scheme, term, text).expect("a term that the rule reads");
+    if rule.refuses(&inv) {
+        refused(number, severity, reason(number, text))
+    } else if lets_through(number, text) {
+        unread(number, severity)
+    } else {
+        accepted(number, severity)
+    }
 }
 
-fn refused(answer: Answer, reason: u32, row: &mut Row, outcome: usize) -> Result<(), Difference> {
-    row.count(outcome);
-    same((answer.verdict, answer.reason), (2, reason))
+/// The digits of the published name: 40 of `PEPPOL-COMMON-R040`, 562 of `PEPPOL-COMMON-R056-2`.
+pub fn number(rule: &Rule) -> u32 {
+    let digits = rule.id.0.bytes().filter(u8::is_ascii_digit);
+    digits.fold(0, |number, d| 10 * number + u32::from(d - b'0'))
 }
 
-fn severity(rule: &Rule) -> u32 {
+pub fn severity(rule: &Rule) -> u32 {
     match rule.severity {
         Severity::Fatal => 1,
         Severity::Warning => 2,
+    }
+}
+
+/// Why a rule refused a text. Where a rule has no check figure, what it refuses lacks the form.
+fn reason(number: u32, text: &str) -> u32 {
+    let form = match number {
+        40 => open::all_digits(&open::normalize_space(text)),
+        41 => open::n_digits(text, 9),
+        43 | 49 => open::n_digits(text, 10),
+        47 => open::normalize_space(text)
+            .get(2..)
+            .is_some_and(|code| code.len() == 11 && open::all_digits(code)),
+        50 => open::n_digits(text, 11),
+        _ => false,
+    };
+    match form {
+        false => FORM,
+        true if number == 41 && open::normalize_space(text) == "000000000" => ZERO,
+        true => CHECK,
+    }
+}
+
+/// Rules 47 and 562 are about contents with their prefix. The original accepts all others, and doesn't say that it read nothing.
+fn lets_through(number: u32, text: &str) -> bool {
+    let begins = |prefix| open::normalize_space(text).starts_with(prefix);
+    match number {
+        47 => !begins("IT") && !begins("it"),
+        562 => !begins("NL"),
+        _ => false,
     }
 }

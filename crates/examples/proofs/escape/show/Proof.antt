@@ -1,0 +1,50 @@
+-- `examples::escape::show` stays within the text.
+use borrow.Author.Needs.{needs}
+use Prim.Native.Nat.{_-_, _≤_}
+use lib.ListN.{length}
+use Rattle.examples.proofs.escape.show.Statement.{statement}
+use Rattle.examples.proofs.escape.show.Tie as tie
+use Rattle.examples.proofs.escape.show.Reads as reads
+use Rattle.examples.proofs.escape.show.Lts as lts
+use Rattle.examples.proofs.escape.show_byte.Reads as show-byte-reads
+
+abbrev Inv-loop : tie.InvT-loop
+Inv-loop s i₀ i = i ≤ length s
+
+abbrev μ-loop : tie.MeasureT-loop
+μ-loop s i₀ i = length s - i
+
+loop-holds : tie.Need-loop-holds Inv-loop μ-loop
+loop-holds c = search needs
+
+shared-slice-read-show-byte : tie.Need-shared-slice-read-show-byte Inv-loop μ-loop
+shared-slice-read-show-byte c = search needs
+
+show-byte-requires : tie.Need-show-byte-requires Inv-loop μ-loop
+show-byte-requires c κs = search needs
+
+add-i : tie.Need-add-i Inv-loop μ-loop
+add-i c = search needs
+
+loop-less : tie.Need-loop-less Inv-loop μ-loop
+loop-less c = search needs
+
+loop-again : tie.Need-loop-again Inv-loop μ-loop
+loop-again c = search needs
+
+returns : tie.Need-returns Inv-loop μ-loop
+returns c = search needs
+
+pub show-spec : {M : Type 1} → statement M
+show-spec =
+    tie.close
+    (tie.spec
+    Inv-loop
+    μ-loop
+    loop-holds
+    shared-slice-read-show-byte
+    show-byte-requires
+    add-i
+    loop-less
+    loop-again
+    returns)
