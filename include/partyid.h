@@ -140,7 +140,9 @@ struct partyid_done partyid_list(const uint8_t *scheme, size_t scheme_len, const
 struct partyid_answer partyid_answer_line(const uint8_t *line, size_t line_len);
 
 /* The answers to the lines of a text, four numbers for each line as in struct partyid_answer, for as many lines as the area has
-   room. A last line without newline counts if it has a byte. Where used is less than text_len, call again with the text from there. */
+   room: out_len is its size in numbers, and below PARTYID_ANSWER_NUMBERS no line is answered. Numbers after the last answer stay. Where used is
+   less than text_len, call again with the text from there. A last line without newline counts if it has a byte: cut a longer text behind
+   a newline, or the line that is cut is answered in two halves. */
 struct partyid_batch partyid_answer_lines(const uint8_t *text, size_t text_len, uint32_t *out, size_t out_len);
 
 /* ---- Text */

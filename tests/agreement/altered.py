@@ -1,0 +1,95 @@
+"""Copies of a header, each altered in one place. A comparison that agrees with one of them does not compare that place."""
+from __future__ import annotations
+
+import re
+from collections.abc import Callable, Iterator
+
+from .header import CONSTANT, ENUM, FUNCTION, STRUCT, items, without_comments
+
+OTHER_TYPE = {
+    "uint32_t": "uint64_t",
+    "size_t": "uint32_t",
+    "const uint8_t *": "uint8_t *",
+    "uint8_t *": "const uint8_t *",
+    "uint32_t *": "uint64_t *",
+    "uint8_t": "uint16_t",
+}
+
+
+def renumbered(item: str) -> str:
+    """The first number behind an = or in brackets, one higher."""
+    return re.sub(r"(= |\[)(\d+)", lambda m: f"{m[1]}{int(m[2]) + 1}", item)
+
+
+def renamed(item: str) -> str:
+    """The declared name: the last of a type and a name, the first of a name and a number."""
+    return re.sub(r"(\w+)(\s*(?:=.*|\[\d+\])?\s*)$", r"\1_other\2", item)
+
+
+def retyped(item: str) -> str:
+    found = re.search(r"(?:const )?\w+(?: \*|(?= ))", item)
+    return item.replace(found[0], OTHER_TYPE[found[0]], 1) if found and found[0] in OTHER_TYPE else item
+
+
+def lists_altered(parts: list[str], changes: list[Callable[[str], str]]) -> Iterator[list[str]]:
+    """Each item changed, left out, followed by another, and exchanged with the next."""
+    for i, part in enumerate(parts):
+        for change in changes:
+            if change(part) != part:
+                yield [*parts[:i], change(part), *parts[i + 1 :]]
+        yield [*parts[:i], *parts[i + 1 :]]
+        yield [*parts[: i + 1], renamed(part), *parts[i + 1 :]]
+        if i + 1 < len(parts):
+            yield [*parts[:i], parts[i + 1], part, *parts[i + 2 :]]
+
+
+def bodies(text: str, pattern: re.Pattern[str], group: int, separator: str, changes: list[Callable[[str], str]]) -> Iterator[str]:
+    for match in pattern.finditer(text):
+        for parts in lists_altered(items(match[group], separator), changes):
+            yield text[: match.start(group)] + separator.join(parts) + (";" if separator == ";" else "") + text[match.end(group) :]
+
+
+def declarations(text: str, pattern: re.Pattern[str], name: int) -> Iterator[str]:
+    """Each declaration renamed, left out, and with a second one of another name."""
+    for match in pattern.finditer(text):
+        other = text[: match.start(name)] + match[name].replace("artyid_", "artyid_other_").replace("ARTYID_", "ARTYID_OTHER_") + text[match.end(name) :]
+        yield other
+        yield text[: match.start()] + text[match.end() :]
+        second = other[match.start() : match.end() + len(other) - len(text)]
+        yield text[: match.end()] + "\n" + second + text[match.end() :]
+
+
+def results(text: str) -> Iterator[str]:
+    for match in FUNCTION.finditer(text):
+        for other in ("struct partyid_answer", "struct partyid_done", "bool", "uint32_t"):
+            if other != match[1]:
+                yield text[: match.start(1)] + other + text[match.end(1) :]
+
+
+def values(text: str) -> Iterator[str]:
+    """Each number in a constant, one higher; and an argument without its brackets."""
+    for match in CONSTANT.finditer(text):
+        for number in re.finditer(r"\b\d+\b", match[2]):
+            at = match.start(2) + number.start()
+            yield text[:at] + str(int(number[0]) + 1) + text[at + len(number[0]) :]
+        if "(n)" in match[2]:
+            yield text[: match.start(2)] + match[2].replace("(n)", "n") + text[match.end(2) :]
+
+
+def strangers(text: str) -> Iterator[str]:
+    """Things that a header may have and this one has not."""
+    for line in ("typedef int partyid_kind;", "extern int partyid_state;", "#define PARTYID_OTHER 1", "#include <stdio.h>", "union partyid_any { int n; };"):
+        yield text.replace("\nenum partyid_verdict", f"\n{line}\nenum partyid_verdict")
+    yield text.replace(", uint8_t *area", ", ...")
+
+
+def altered_headers(source: str) -> Iterator[str]:
+    text = without_comments(source)
+    yield from bodies(text, ENUM, 2, ",", [renumbered, renamed])
+    yield from bodies(text, STRUCT, 2, ";", [renumbered, renamed, retyped])
+    yield from bodies(text, FUNCTION, 3, ",", [renamed, retyped])
+    yield from results(text)
+    yield from values(text)
+    yield from strangers(text)
+    for pattern, name in ((ENUM, 1), (STRUCT, 1), (FUNCTION, 2), (CONSTANT, 1)):
+        yield from declarations(text, pattern, name)

@@ -1,0 +1,157 @@
+"""What the definitions and the declarations of the crates ask of a header."""
+from __future__ import annotations
+
+import pathlib
+import re
+
+from .interface import Function, Interface, Typed, Unreadable, upper_snake
+
+# the definition that numbers the cases of each enum, and where it stands
+NUMBERED = {
+    "verdict": ("answer/specs/Numbers.antt", "verdictNumber"),
+    "severity": ("answer/specs/Numbers.antt", "severityNumber"),
+    "reason": ("answer/specs/Numbers.antt", "reasonNumber"),
+    "withdrawal": ("partyid/specs/Plain.antt", "plainCode"),
+}
+# a case = a number; a case with its argument = the record's maker with the number
+EQUATION = re.compile(r"\(?(\w+)(?: \w+\))? = (?:fourBytes )?(\d+)(?: .*)?")
+
+STRUCT = re.compile(r"(#\[repr\(C\)\]\n)?pub struct (\w+) \{([^}]*)\}")
+FUNCTION = re.compile(r"#\[no_mangle\]\s+pub extern \"C\" fn (\w+)\(([^)]*)\)\s*->\s*(\w+)")
+
+SCALARS = {"u8": "uint8_t", "u32": "uint32_t", "usize": "size_t", "bool": "bool"}
+SLICES = {"&[u8]": "const uint8_t *", "&mut [u8]": "uint8_t *", "&mut [u32]": "uint32_t *"}
+
+
+def equations(text: str, name: str) -> list[tuple[str, int]]:
+    """The numbers that a definition gives by its equations, each case with its own."""
+    found = []
+    for line in re.findall(rf"^{name} (?!:)(.*)$", text, re.M):
+        equation = EQUATION.fullmatch(line)
+        if not equation:
+            raise Unreadable(f"not a case and a number: {name} {line}")
+        found.append((equation[1], int(equation[2])))
+    if not found:
+        raise Unreadable(f"no equation of {name}")
+    return found
+
+
+def cases(crates: pathlib.Path) -> dict[str, list[tuple[str, int]]]:
+    """Each enum with its cases as the definitions write them: {"verdict": [("NoRule", 0), ..]}."""
+    return {enum: equations((crates / file).read_text(), name) for enum, (file, name) in NUMBERED.items()}
+
+
+def number_in(crates: pathlib.Path, file: str, *patterns: str) -> str:
+    """The one number that each of some places in a file gives."""
+    text = (crates / file).read_text()
+    found = {number for pattern in patterns for number in re.findall(pattern, text, re.M) or ["nothing"]}
+    if len(found) != 1 or "nothing" in found:
+        raise Unreadable(f"{file}: {patterns} give {sorted(found)}")
+    return found.pop()
+
+
+def area(crates: pathlib.Path) -> str:
+    return number_in(
+        crates, "text/specs/Answer.antt", r"^readableOf s = cond \(leb \(length s\) (\d+)\)", r"^padded l = l \+\+ replicate \((\d+) - length l\) 0$"
+    )
+
+
+def answer_numbers(crates: pathlib.Path, structs: dict[str, list[Typed]]) -> str:
+    """The numbers that a line has room for are those of an answer, in the order of its struct."""
+    batch = (crates / "lines/specs/Batch.antt").read_text()
+    written = re.search(r"^fourNumbers a =([^\[]*)\[\]$", batch, re.M)
+    if not written or re.findall(r"a \.(\w+)", written[1]) != [name for _, name in structs["partyid_answer"]]:
+        raise Unreadable("lines/specs/Batch.antt: fourNumbers has other numbers than PartyidAnswer, or in another order")
+    return number_in(crates, "lines/specs/Batch.antt", r"^batched room s = take \(room / (\d+)\)")
+
+
+def constants(crates: pathlib.Path, structs: dict[str, list[Typed]]) -> dict[str, str]:
+    listing = (crates / "corrections/specs/Listing.antt").read_text()
+    room = re.search(r"^roomFor n = (.*)$", listing, re.M)
+    if not room:
+        raise Unreadable("corrections/specs/Listing.antt: no equation of roomFor")
+    return {
+        "PARTYID_AREA": area(crates),
+        "PARTYID_LIST_DIGITS": str(max(most for _, most in equations(listing, "mostOf"))),
+        "PARTYID_LIST_ROOM(n)": room[1],
+        "PARTYID_ANSWER_NUMBERS": answer_numbers(crates, structs),
+    }
+
+
+# ---- The declarations of crates/partyid
+
+
+def struct_name(name: str) -> str:
+    """PartyidAnswer -> partyid_answer."""
+    return upper_snake(name).lower()
+
+
+def split_fields(body: str) -> list[tuple[str, str]]:
+    """name: type, .. -> [(name, type), ..]."""
+    fields = [f.strip().removeprefix("pub ") for f in body.split(",") if f.strip()]
+    return [(name.strip(), kind.strip()) for name, kind in (f.split(":", 1) for f in fields)]
+
+
+def scalar(kind: str) -> str:
+    if kind not in SCALARS:
+        raise Unreadable(f"a type that is not known here: {kind}")
+    return SCALARS[kind]
+
+
+def struct_fields(name: str, body: str) -> list[Typed]:
+    fields = [(scalar(kind), field) for field, kind in split_fields(body)]
+    if name == "PartyidCode":
+        # the prover takes no array in an enum, so that the successor is four fields there
+        four = [("uint8_t", letter) for letter in "abcd"]
+        if fields[1:] != four:
+            raise Unreadable(f"PartyidCode has other fields than a, b, c, d: {fields}")
+        fields[1:] = [("uint8_t[4]", "successor")]
+    return fields
+
+
+def parameter(name: str, kind: str, area_bytes: str) -> list[Typed]:
+    """A slice is a pointer and a length; an array lent is a pointer alone."""
+    if kind in SLICES:
+        return [(SLICES[kind], name), ("size_t", f"{name}_len")]
+    if kind == f"&mut [u8; {area_bytes}]":
+        return [("uint8_t *", name)]
+    return [(scalar(kind), name)]
+
+
+def result(kind: str, structs: dict[str, list[Typed]]) -> str:
+    if struct_name(kind) in structs:
+        return f"struct {struct_name(kind)}"
+    return scalar(kind)
+
+
+def read_structs(text: str) -> dict[str, list[Typed]]:
+    found = {}
+    for repr_c, name, body in STRUCT.findall(text):
+        if not repr_c:
+            raise Unreadable(f"{name} is not laid out as in C")
+        found[struct_name(name)] = struct_fields(name, body)
+    return found
+
+
+def read_functions(text: str, structs: dict[str, list[Typed]], area_bytes: str) -> dict[str, Function]:
+    found = {}
+    for name, parameters, kind in FUNCTION.findall(text):
+        typed = [pair for p in split_fields(parameters) for pair in parameter(*p, area_bytes)]
+        found[name] = Function(result(kind, structs), typed)
+    if len(found) != text.count("#[no_mangle]"):
+        raise Unreadable(f"{text.count('#[no_mangle]')} functions are marked #[no_mangle] and {len(found)} could be read")
+    return found
+
+
+def read_definitions(crates: pathlib.Path) -> Interface:
+    text = "".join(path.read_text() for path in sorted((crates / "partyid/src").glob("*.rt")))
+    structs = read_structs(re.sub(r"//.*", "", text))
+    return Interface(
+        enums={
+            f"partyid_{enum}": [(f"PARTYID_{enum.upper()}_{upper_snake(case)}", number) for case, number in numbered]
+            for enum, numbered in cases(crates).items()
+        },
+        structs=structs,
+        functions=read_functions(re.sub(r"//.*", "", text), structs, area(crates)),
+        constants=constants(crates, structs),
+    )

@@ -1,0 +1,73 @@
+"""The Python binding, looked at from within: importing it loads no library."""
+from __future__ import annotations
+
+import ctypes
+import importlib.util
+import pathlib
+import types
+
+from .interface import Function, Interface, Typed, Unreadable, differing, upper_snake
+from .rust_binding import Cases, types_of
+
+TYPES = {
+    ctypes.c_uint32: "uint32_t",
+    ctypes.c_size_t: "size_t",
+    ctypes.c_bool: "bool",
+    ctypes.c_uint8 * 4: "uint8_t[4]",
+    ctypes.c_void_p: "const uint8_t *",  # an address, so that a text can be handed over from any byte on
+    ctypes.POINTER(ctypes.c_uint8): "uint8_t *",
+    ctypes.POINTER(ctypes.c_uint32): "uint32_t *",
+}
+
+
+def load(path: pathlib.Path) -> types.ModuleType:
+    spec = importlib.util.spec_from_file_location("partyid", path)
+    assert spec and spec.loader
+    module = importlib.util.module_from_spec(spec)
+    spec.loader.exec_module(module)
+    return module
+
+
+def c_type(kind: type) -> str:
+    if isinstance(kind, type) and issubclass(kind, ctypes.Structure):
+        return f"struct {struct_name(kind)}"
+    if kind not in TYPES:
+        raise Unreadable(f"partyid.py: a type that is not known here: {kind}")
+    return TYPES[kind]
+
+
+def struct_name(struct: type) -> str:
+    """_Answer -> partyid_answer."""
+    return f"partyid_{struct.__name__.strip('_').lower()}"
+
+
+def read_structs(module: types.ModuleType) -> dict[str, list[Typed]]:
+    structs = [v for v in vars(module).values() if isinstance(v, type) and issubclass(v, ctypes.Structure)]
+    return {struct_name(s): [(c_type(kind), name) for name, kind in s._fields_] for s in structs}
+
+
+def read_functions(module: types.ModuleType) -> dict[str, Function]:
+    return {name: Function(c_type(gives), [(c_type(t), "") for t in takes]) for name, (gives, takes) in module._FUNCTIONS.items()}
+
+
+def read_enums(module: types.ModuleType, cases: dict[str, Cases]) -> dict[str, Cases]:
+    """The enums are found by their names, Verdict for verdict."""
+    found = {enum: getattr(module, enum.capitalize(), None) for enum in cases}
+    return {enum: [(name, int(m)) for name, m in kind.__members__.items()] for enum, kind in found.items() if kind}
+
+
+def read_constants(module: types.ModuleType, wanted: dict[str, str]) -> dict[str, str]:
+    """PARTYID_AREA is AREA there. A macro has no namesake."""
+    return {name: str(getattr(module, name.removeprefix("PARTYID_"), "missing")) for name in wanted if "(" not in name}
+
+
+def python_disagreements(path: pathlib.Path, wanted: Interface, cases: dict[str, Cases]) -> list[str]:
+    module = load(path)
+    numbers = {enum: [(upper_snake(case), number) for case, number in numbered] for enum, numbered in cases.items()}
+    constants = read_constants(module, wanted.constants)
+    return (
+        differing("enum", numbers, read_enums(module, cases))
+        + differing("constant", {name: wanted.constants[name] for name in constants}, constants)
+        + differing("struct", wanted.structs, read_structs(module))
+        + differing("function", types_of(wanted.functions), read_functions(module))
+    )

@@ -1,0 +1,15 @@
+/* Calls every function of partyid.h, with document 01's cases and with bad calls, and checks each answer and every byte around it. */
+#include "kit.h"
+
+int main(void)
+{
+    test_layout();
+    test_field();
+    test_rules();
+    test_accounts();
+    test_completing();
+    test_listing();
+    test_content();
+    test_lines();
+    return verdict_of_checks();
+}
