@@ -1,8 +1,44 @@
 //! Contents that a rule accepts or nearly accepts, as they come: whole, with a slip of the hand, with white around them.
 
 use crate::inputs::WHITE;
-use crate::original::{self, Predicates};
+use crate::original::{self, open};
 use crate::random::Random;
+
+/// Contents of every form that a rule or an account accepts, the shortest and the longest where lengths differ, and codes that were withdrawn.
+pub const GOOD: [&str; 32] = [
+    "0",
+    "17",
+    "4012345000009",
+    "12345678901234567890",
+    "123456785",
+    "000000140",
+    "000000000",
+    "12345678",
+    "DK12345678",
+    "1234567894",
+    "0000009797",
+    "aZ09zA",
+    "RSSMRA85T10A562S",
+    "ABCDEF+1G 2xyz3H",
+    "ABCDEF-1G+2é€😀3H",
+    "12345678901",
+    "+1234567890",
+    "IT12345678903",
+    "it12345678903",
+    "1234567897",
+    "51824753556",
+    "01000100000",
+    "123456789012",
+    "NL123456789B12",
+    "aa750",
+    "DE89370400440532013000",
+    "FR14 2004 1010 0505 0001 3M02 606",
+    "MT41ABCDEFGHIJKLMNOPQRSTUVWXYZ0123",
+    "AB12CDEF",
+    "DE98ZZZ0999999999901234567890123456",
+    "9905",
+    "9958",
+];
 
 /// A content for one of the rules, accepted by it or one or two changes away.
 pub fn near(r: &mut Random, content: &mut Vec<u8>) {
@@ -16,18 +52,54 @@ pub fn near(r: &mut Random, content: &mut Vec<u8>) {
     content.extend(text);
 }
 
+/// A content made for the rule of a scheme: accepted, with a slip of the hand, or zeros.
+pub fn made_for(r: &mut Random, scheme: &[u8]) -> Vec<u8> {
+    if r.one_in(40) {
+        return vec![b'0'; 8 + r.below(4)];
+    }
+    let mut content = accepted_by(r, scheme).into_bytes();
+    if r.one_in(2) {
+        slip(r, &mut content);
+    }
+    content
+}
+
+/// A content that the rule of a scheme accepts; for other schemes one that some rule accepts.
+pub fn accepted_by(r: &mut Random, scheme: &[u8]) -> String {
+    match scheme {
+        b"0088" => {
+            let n = 1 + r.below(20);
+            figure(r, n, 1, open::gln)
+        }
+        b"0192" => figure(r, 9, 1, open::mod11),
+        b"0184" | b"0198" => spelled(r, "DK########"),
+        b"0208" => figure(r, 10, 2, open::mod97_0208),
+        b"0201" => spelled(r, "******"),
+        b"0210" | b"9907" => codice(r),
+        b"0211" => italian(r),
+        b"0007" => figure(r, 10, 1, open::se_orgnr),
+        b"0151" => figure(r, 11, 2, open::abn),
+        b"0096" => spelled(r, "##########"),
+        b"0106" => spelled(r, "########"),
+        b"0190" => spelled(r, "####################"),
+        b"0217" => spelled(r, "############"),
+        b"9944" => spelled(r, "NL#########B##"),
+        _ => accepted(r),
+    }
+}
+
 fn accepted(r: &mut Random) -> String {
     match r.below(14) {
         0 => {
             let n = 1 + r.below(22);
-            figure(r, n, 1, Predicates::COMMON_R040)
+            figure(r, n, 1, open::gln)
         }
-        1 => figure(r, 13, 1, Predicates::COMMON_R040),
-        2 => figure(r, 9, 1, Predicates::COMMON_R041),
-        3 => figure(r, 10, 2, Predicates::COMMON_R043),
-        4 => figure(r, 10, 1, Predicates::COMMON_R049),
-        5 => figure(r, 11, 2, Predicates::COMMON_R050),
-        6 => figure(r, 11, 1, |s| Predicates::COMMON_R047(&format!("IT{s}"))),
+        1 => figure(r, 13, 1, open::gln),
+        2 => figure(r, 9, 1, open::mod11),
+        3 => figure(r, 10, 2, open::mod97_0208),
+        4 => figure(r, 10, 1, open::se_orgnr),
+        5 => figure(r, 11, 2, open::abn),
+        6 => figure(r, 11, 1, italian_figure),
         7 => italian(r),
         8 => {
             let form = *r.among(&["##########", "########", "DK########", "############"]);
@@ -53,15 +125,26 @@ fn digits(r: &mut Random, n: usize) -> String {
 /// n digits of which the last ones are tried until they are right; where none is, as they are.
 fn figure(r: &mut Random, n: usize, width: usize, accepts: fn(&str) -> bool) -> String {
     let body = digits(r, n - width.min(n));
-    let all = if width == 1 { 10 } else { 100 };
-    (0..all)
-        .map(|k| format!("{body}{k:0width$}"))
-        .find(|s| accepts(s))
-        .unwrap_or(body)
+    let mut whole = body.clone();
+    for figure in 0..10_u8.pow(width as u32) {
+        whole.truncate(body.len());
+        if width == 2 {
+            whole.push(char::from(b'0' + figure / 10));
+        }
+        whole.push(char::from(b'0' + figure % 10));
+        if accepts(&whole) {
+            return whole;
+        }
+    }
+    body
+}
+
+fn italian_figure(number: &str) -> bool {
+    open::partita_iva(&format!("IT{number}"))
 }
 
 fn italian(r: &mut Random) -> String {
-    let number = figure(r, 11, 1, |s| Predicates::COMMON_R047(&format!("IT{s}")));
+    let number = figure(r, 11, 1, italian_figure);
     let prefix = *r.among(&["IT", "it", "It", "iT", "IT ", "DE"]);
     format!("{prefix}{number}")
 }

@@ -101,14 +101,14 @@ impl Path {
     }
 }
 
-/// The places that a rule reports.
+/// Whether a rule reports anything. The invoices here have one field, so that there is one place to report.
 pub struct Findings<'a> {
-    pub out: &'a mut Vec<Path>,
+    out: &'a mut Option<Path>,
 }
 
 impl Findings<'_> {
     pub fn at(&mut self, path: Path) {
-        self.out.push(path);
+        *self.out = Some(path);
     }
 }
 
@@ -142,10 +142,10 @@ pub struct Rule {
 }
 
 impl Rule {
-    /// Whether the rule reports anything on the invoice.
-    pub fn refuses(&self, inv: &Invoice) -> bool {
-        let mut out = Vec::new();
+    /// The place that the rule reports on an invoice with one field.
+    pub fn reported(&self, inv: &Invoice) -> Option<Path> {
+        let mut out = None;
         (self.eval)(inv, &mut Findings { out: &mut out });
-        !out.is_empty()
+        out
     }
 }

@@ -3,7 +3,10 @@
 pub mod accounts;
 pub mod answers;
 pub mod corrections;
+pub mod fields;
 pub mod identifiers;
+pub mod input_lines;
+pub mod input_numbers;
 pub mod inputs;
 pub mod invoice;
 #[path = "../../bindings/rust/src/raw.rs"]

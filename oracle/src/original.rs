@@ -769,8 +769,9 @@ pub mod open {
         super::normalize_space(s)
     }
 
-    pub fn castable_integer(s: &str) -> bool {
-        super::castable_integer(s)
+    /// The stripped text, by the first line of `is_valid_iban_checksum`.
+    pub fn stripped(s: &str) -> String {
+        s.chars().filter(|c| !c.is_whitespace()).collect()
     }
 
     pub fn all_digits(s: &str) -> bool {
@@ -781,9 +782,28 @@ pub mod open {
         super::n_digits(s, n)
     }
 
-    /// The stripped text, by the first line of `is_valid_iban_checksum`.
-    pub fn stripped(s: &str) -> String {
-        s.chars().filter(|c| !c.is_whitespace()).collect()
+    pub fn gln(s: &str) -> bool {
+        super::gln(s)
+    }
+
+    pub fn mod11(s: &str) -> bool {
+        super::mod11(s)
+    }
+
+    pub fn mod97_0208(s: &str) -> bool {
+        super::mod97_0208(s)
+    }
+
+    pub fn se_orgnr(s: &str) -> bool {
+        super::se_orgnr(s)
+    }
+
+    pub fn abn(s: &str) -> bool {
+        super::abn(s)
+    }
+
+    pub fn partita_iva(s: &str) -> bool {
+        super::partita_iva(s)
     }
 }
 // end of apart

@@ -22,7 +22,7 @@ pub fn held(scheme: &[u8]) -> Option<&str> {
     str::from_utf8(scheme).ok()
 }
 
-/// The rule that reads a field: the one that reports a content there which no rule about such fields lets pass.
+/// The rule that reads a field, found by asking the original: every rule of a scheme reports `IT`, and the rule of VAT numbers reports `NL`.
 pub fn rule_for(scheme: Option<&str>, term: u32) -> Option<&'static Rule> {
     ["IT", "NL"]
         .iter()
@@ -36,7 +36,19 @@ pub fn reporting(
     content: &str,
 ) -> impl Iterator<Item = &'static Rule> {
     let inv = Invoice::with_field(scheme, term, content).unwrap_or_default();
-    COMMON.into_iter().filter(move |rule| rule.refuses(&inv))
+    COMMON
+        .into_iter()
+        .filter(move |rule| refuses(rule, &inv, term))
+}
+
+/// Whether a rule reports the field of an invoice, at that field's term.
+fn refuses(rule: &Rule, inv: &Invoice, term: u32) -> bool {
+    let reported = rule.reported(inv);
+    assert!(
+        reported.is_none_or(|path| u32::from(path.term.0) == term),
+        "a rule reports another field than the one there is"
+    );
+    reported.is_some()
 }
 
 /// The answer of the rule that reads the field.
@@ -47,7 +59,7 @@ pub fn answer_by(rule: &Rule, scheme: Option<&str>, term: u32, content: &[u8]) -
         Err(reason) => return refused(number, severity, reason),
     };
     let inv = Invoice::with_field(scheme, term, text).expect("a term that the rule reads");
-    if rule.refuses(&inv) {
+    if refuses(rule, &inv, term) {
         refused(number, severity, reason(number, text))
     } else if lets_through(number, text) {
         unread(number, severity)
@@ -58,7 +70,8 @@ pub fn answer_by(rule: &Rule, scheme: Option<&str>, term: u32, content: &[u8]) -
 
 /// The digits of the published name: 40 of `PEPPOL-COMMON-R040`, 562 of `PEPPOL-COMMON-R056-2`.
 pub fn number(rule: &Rule) -> u32 {
-    let digits = rule.id.0.bytes().filter(u8::is_ascii_digit);
+    let name = &rule.id.0["PEPPOL-COMMON-R".len()..];
+    let digits = name.bytes().filter(u8::is_ascii_digit);
     digits.fold(0, |number, d| 10 * number + u32::from(d - b'0'))
 }
 
@@ -90,10 +103,11 @@ fn reason(number: u32, text: &str) -> u32 {
 
 /// Rules 47 and 562 are about contents with their prefix. The original accepts all others, and doesn't say that it read nothing.
 fn lets_through(number: u32, text: &str) -> bool {
-    let begins = |prefix| open::normalize_space(text).starts_with(prefix);
-    match number {
-        47 => !begins("IT") && !begins("it"),
-        562 => !begins("NL"),
-        _ => false,
-    }
+    let prefixes: &[&str] = match number {
+        47 => &["IT", "it"],
+        562 => &["NL"],
+        _ => return false,
+    };
+    let text = open::normalize_space(text);
+    !prefixes.iter().any(|prefix| text.starts_with(prefix))
 }
