@@ -1,4 +1,4 @@
-//! The contents on which the two sides are compared.
+//! Random contents.
 
 use crate::identifiers::near;
 use crate::library::AREA;
@@ -61,92 +61,6 @@ pub const BYTES: [u8; 46] = [
     0x5a, 0x5b, 0x60, 0x61, 0x7a, 0x7b, 0x7f, 0x80, 0x85, 0x8f, 0x90, 0x9f, 0xa0, 0xaf, 0xbf, 0xc0,
     0xc1, 0xc2, 0xdf, 0xe0, 0xe1, 0xe2, 0xec, 0xed, 0xef, 0xf0, 0xf3, 0xf4, 0xf5, 0xff,
 ];
-
-/// First bytes at the ends of RFC 3629's rows, and further bytes at the ends of its ranges.
-const FIRST: [u8; 20] = [
-    0x00, 0x7f, 0x80, 0xbf, 0xc0, 0xc1, 0xc2, 0xdf, 0xe0, 0xe1, 0xec, 0xed, 0xee, 0xef, 0xf0, 0xf1,
-    0xf3, 0xf4, 0xf5, 0xff,
-];
-const FURTHER: [u8; 10] = [0x20, 0x7f, 0x80, 0x8f, 0x90, 0x9f, 0xa0, 0xbf, 0xc0, 0xff];
-
-/// The contents that every run compares, whatever its count and seed.
-pub fn fixed(each: &mut impl FnMut(&[u8])) {
-    every_short(each);
-    rows(each);
-    every_point(each);
-    white_pairs(each);
-    lengths(each);
-}
-
-/// All of no byte, one and two; of three, those of the list.
-fn every_short(each: &mut impl FnMut(&[u8])) {
-    each(&[]);
-    for a in 0..=0xff {
-        each(&[a]);
-        (0..=0xff).for_each(|b| each(&[a, b]));
-    }
-    for a in BYTES {
-        for b in BYTES {
-            BYTES.iter().for_each(|&c| each(&[a, b, c]));
-        }
-    }
-}
-
-/// Sequences of four bytes along the edges of RFC 3629's table, whole and cut short.
-fn rows(each: &mut impl FnMut(&[u8])) {
-    for a in FIRST {
-        for b in FURTHER {
-            for c in FURTHER {
-                each(&[b'a', a, b, c]);
-                FURTHER.iter().for_each(|&d| each(&[a, b, c, d]));
-            }
-        }
-    }
-}
-
-/// Every number to past the last code point, spelled in two to four bytes, well-formed or not, between two letters.
-fn every_point(each: &mut impl FnMut(&[u8])) {
-    for c in 0..0x14_0000_u32 {
-        let mut content = vec![b'a'];
-        if c < 0x800 {
-            content.extend([0xc0 | (c >> 6) as u8, tail(c)]);
-        } else if c < 0x1_0000 {
-            content.extend([0xe0 | (c >> 12) as u8, tail(c >> 6), tail(c)]);
-        } else {
-            content.extend([0xf0 | (c >> 18) as u8, tail(c >> 12), tail(c >> 6), tail(c)]);
-        }
-        content.push(b'b');
-        each(&content);
-    }
-}
-
-fn tail(c: u32) -> u8 {
-    0x80 | (c & 0x3f) as u8
-}
-
-/// Every two white points, alone, within a text and at its ends.
-fn white_pairs(each: &mut impl FnMut(&[u8])) {
-    for v in WHITE {
-        for w in WHITE {
-            for text in [
-                format!("{v}{w}"),
-                format!("7{v}{w}x"),
-                format!("{v}7{w}"),
-                format!("{v}é x{w}"),
-            ] {
-                each(text.as_bytes());
-            }
-        }
-    }
-}
-
-/// Every length up to past the limit: of one byte, of white, and of points of two to four bytes, the last one cut where it does not fit.
-fn lengths(each: &mut impl FnMut(&[u8])) {
-    for unit in ["7", " ", "7 ", "é", "\u{2003}", "😀", "\u{3000}x"] {
-        let text = unit.repeat(AREA + 8);
-        (0..AREA + 8).for_each(|n| each(&text.as_bytes()[..n]));
-    }
-}
 
 /// A random content.
 pub fn random(r: &mut Random, content: &mut Vec<u8>) {

@@ -3,6 +3,7 @@
 pub mod accounts;
 pub mod answers;
 pub mod corrections;
+pub mod exhaustive;
 pub mod fields;
 pub mod identifiers;
 pub mod input_lines;

@@ -1,82 +1,65 @@
 //! IBAN, creditor identifier, strict GLN and the withdrawn codes.
 
 use oracle::accounts;
-use oracle::answers::{LONG, UTF8};
-use oracle::library::{self, Answer};
+use oracle::library;
 
-use super::report::{Difference, Row, Subject, same};
+use super::answer::{self, ACCEPTED, CHECK, FORM, LONG, NO_RULE, UTF8};
+use super::difference::{Difference, same};
+use super::input::Input;
+use super::tally::Kind;
 
-static OUTCOMES: [&str; 5] = ["LONG", "UTF8", "accepted", "FORM", "CHECK"];
+pub const IBAN: usize = 0;
+pub const CREDITOR: usize = 1;
 
-pub fn subjects() -> Vec<Subject> {
-    vec![
-        Subject {
-            function: "iban",
-            outcomes: &OUTCOMES,
-            compare: iban,
-        },
-        Subject {
-            function: "creditor",
-            outcomes: &OUTCOMES[..4],
-            compare: creditor,
-        },
-        Subject {
-            function: "eas_value",
-            outcomes: &OUTCOMES,
-            compare: eas_value,
-        },
-        Subject {
-            function: "withdrawn",
-            outcomes: &["not withdrawn", "no successor", "successor"],
-            compare: withdrawn,
-        },
-    ]
+pub static ACCOUNTS: Kind = Kind {
+    outcomes: &answer::OUTCOMES,
+    functions: &[
+        ("iban", &[ACCEPTED, LONG, UTF8, FORM, CHECK]),
+        ("creditor", &[ACCEPTED, LONG, UTF8, FORM]),
+    ],
+    parts: ["", "", "content"],
+    compare: account,
+};
+
+fn account(function: usize, input: Input<'_>) -> Result<usize, Difference> {
+    let content = input.content;
+    let (library, original) = match function {
+        IBAN => (
+            library::is_valid_iban_checksum(content),
+            accounts::iban(content),
+        ),
+        _ => (
+            library::is_valid_creditor_identifier(content),
+            accounts::creditor(content),
+        ),
+    };
+    answer::agreed(library, original)
 }
 
-fn iban(content: &[u8], row: &mut Row) -> Result<(), Difference> {
-    account(
-        library::is_valid_iban_checksum(content),
-        accounts::iban(content),
-        row,
+pub static STRICT: Kind = Kind {
+    outcomes: &answer::OUTCOMES,
+    functions: &[("eas_value", &[NO_RULE, ACCEPTED, LONG, UTF8, FORM, CHECK])],
+    parts: ["scheme", "", "content"],
+    compare: eas_value,
+};
+
+fn eas_value(_: usize, input: Input<'_>) -> Result<usize, Difference> {
+    let (scheme, content) = (input.scheme, input.content);
+    answer::agreed(
+        library::eas_value(scheme, content),
+        accounts::eas_value(scheme, content),
     )
 }
 
-fn creditor(content: &[u8], row: &mut Row) -> Result<(), Difference> {
-    account(
-        library::is_valid_creditor_identifier(content),
-        accounts::creditor(content),
-        row,
-    )
-}
+pub static CODES: Kind = Kind {
+    outcomes: &["not withdrawn", "no successor", "successor"],
+    functions: &[("withdrawn", &[0, 1, 2])],
+    parts: ["", "", "code"],
+    compare: withdrawn,
+};
 
-/// The strict GLN, and a scheme beside it, which answers without looking.
-fn eas_value(content: &[u8], row: &mut Row) -> Result<(), Difference> {
-    same(
-        library::eas_value(b"0089", content),
-        accounts::eas_value(b"0089", content),
-    )?;
-    account(
-        library::eas_value(b"0088", content),
-        accounts::eas_value(b"0088", content),
-        row,
-    )
-}
-
-fn account(library: Answer, original: Answer, row: &mut Row) -> Result<(), Difference> {
-    same(library, original)?;
-    row.count(match original.reason {
-        0 => 2,
-        LONG => 0,
-        UTF8 => 1,
-        reason => reason as usize,
-    });
-    Ok(())
-}
-
-/// A content as a code.
-fn withdrawn(content: &[u8], row: &mut Row) -> Result<(), Difference> {
-    let original = accounts::withdrawn(content);
-    same(library::withdrawn(content), original)?;
-    row.count(original.answer as usize);
-    Ok(())
+fn withdrawn(_: usize, input: Input<'_>) -> Result<usize, Difference> {
+    let original = accounts::withdrawn(input.content);
+    same(library::withdrawn(input.content), original)?;
+    Ok(original.answer as usize)
 }

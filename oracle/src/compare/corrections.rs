@@ -1,194 +1,151 @@
-//! Completing and listing against the original's predicates, tried on every candidate.
+//! Completing and listing, against every candidate tried on the original's predicates.
 
-use oracle::answers::{FORM, NONE, ROOM, SCHEME, ZERO};
-use oracle::corrections::{FIVE, Five, completed, listed, room_for};
-use oracle::library::{self, Done};
+use std::ops::Range;
+
+use oracle::corrections::{FIVE, completed, listed, room_for};
+use oracle::library;
 use oracle::random::Random;
+use oracle::{answers, fields, input_numbers};
 
-use super::report::{Difference, Row, same};
+use super::difference::{Difference, same, same_area};
+use super::input::Input;
+use super::report::{Of, Report};
+use super::tally::Kind;
+
+const DONE: usize = 0;
+const NOTHING: usize = 1;
+const LONG: usize = 2;
+const UTF8: usize = 3;
+const FORM: usize = 4;
+const ZERO: usize = 5;
+const NO_FIGURE: usize = 6;
+const SCHEME: usize = 7;
+const ROOM: usize = 8;
+const GOOD: usize = 9;
+
+/// Completing, by scheme in the order of `FIVE` and behind them all other schemes; then listing likewise.
+pub static CORRECTIONS: Kind = Kind {
+    outcomes: &[
+        "done",
+        "nothing found",
+        "LONG",
+        "UTF8",
+        "FORM",
+        "ZERO",
+        "NONE",
+        "SCHEME",
+        "ROOM",
+        "GOOD",
+    ],
+    functions: &[
+        ("complete 0088", &[DONE, FORM, ROOM]),
+        ("complete 0192", &[DONE, FORM, ZERO, NO_FIGURE, ROOM]),
+        ("complete 0208", &[DONE, FORM, ROOM]),
+        ("complete 0007", &[DONE, FORM, ROOM]),
+        ("complete 0151", &[DONE, FORM, ROOM]),
+        ("complete others", &[SCHEME]),
+        ("list 0088", &[DONE, LONG, UTF8, FORM, ROOM, GOOD]),
+        ("list 0192", &[DONE, NOTHING, LONG, UTF8, FORM, ROOM, GOOD]),
+        ("list 0208", &[DONE, NOTHING, LONG, UTF8, FORM, ROOM, GOOD]),
+        ("list 0007", &[DONE, LONG, UTF8, FORM, ROOM, GOOD]),
+        ("list 0151", &[DONE, NOTHING, LONG, UTF8, FORM, ROOM, GOOD]),
+        ("list others", &[SCHEME]),
+    ],
+    parts: ["scheme", "room", "content"],
+    compare: correct,
+};
+
+/// The first function that lists.
+const LIST: usize = FIVE.len() + 1;
 
 /// A byte that no digit is: what an area is filled with before a call.
 const FILL: u8 = 0xa5;
 
-/// `count` completions and as many lists of each of the five, and of schemes beside them.
-pub fn rows(count: u64, seed: u64) -> Vec<Row> {
-    let mut completed = Row::new(
-        "complete",
-        &["done", "FORM", "ZERO", "NONE", "SCHEME", "ROOM"],
-    );
-    let mut listed = Row::new(
-        "list",
-        &[
-            "done",
-            "done, nothing found",
-            "FORM",
-            "SCHEME",
-            "ROOM",
-            "GOOD",
-        ],
-    );
-    let mut r = Random::new(seed);
-    for _ in 0..count {
-        for five in &FIVE {
-            let body = digits(&mut r, five.body);
-            attempt(&mut completed, five.scheme, &body, |row| {
-                complete(five, &body, &mut r, row)
-            });
-            let number = number(&mut r, five);
-            attempt(&mut listed, five.scheme, &number, |row| {
-                list(five, &number, &mut r, row)
-            });
-        }
-        beside(&mut r, &mut completed, &mut listed);
-    }
-    vec![completed, listed]
-}
-
-fn attempt(
-    row: &mut Row,
-    scheme: &str,
-    digits: &str,
-    call: impl FnOnce(&mut Row) -> Result<(), Difference>,
-) {
-    if let Err(difference) = call(row) {
-        row.differ(&format!("{scheme} {digits}"), &difference);
-    }
-}
-
-/// Digits within the bounds, now and then one too many, one too few, zeros, or with another byte among them.
-fn digits(r: &mut Random, (least, most): (usize, usize)) -> String {
-    let mut n = least + r.below(most - least + 1);
-    if r.one_in(20) {
-        n = n + 2 - r.below(4).min(n + 2);
-    }
-    let zeros = r.one_in(10);
-    let mut s: String = (0..n)
-        .map(|_| {
-            if zeros && !r.one_in(8) {
-                '0'
-            } else {
-                char::from(b'0' + r.below(10) as u8)
-            }
-        })
-        .collect();
-    if r.one_in(40) {
-        s.push(*r.among(&['a', ' ', '/', ':', 'é']));
-    }
-    s
-}
-
-/// A number: digits at random, or an accepted one with a slip of the hand, or accepted.
-fn number(r: &mut Random, five: &Five) -> String {
-    let mut s = digits(r, five.number).into_bytes();
-    if r.one_in(2) && s.iter().all(u8::is_ascii_digit) && !s.is_empty() {
-        right(r, five, &mut s);
-        let at = r.below(s.len());
-        match r.below(8) {
-            0 => {}
-            1..=4 => s[at] = b'0' + r.below(10) as u8,
-            _ if at + 1 < s.len() => s.swap(at, at + 1),
-            _ => {}
-        }
-    }
-    String::from_utf8(s).expect("characters")
-}
-
-/// Makes a number accepted by changing it, for some tries.
-fn right(r: &mut Random, five: &Five, s: &mut [u8]) {
-    for _ in 0..4 {
-        for pair in 0..100 {
-            let text = String::from_utf8(s.to_vec()).expect("digits");
-            if (five.accepts)(&text) {
-                return;
-            }
-            let (front, back) = (five.scheme == "0151", s.len() - 1);
-            let (a, b) = if front {
-                (0, 1)
-            } else {
-                (back.saturating_sub(1), back)
-            };
-            s[a] = b'0' + pair / 10;
-            if b < s.len() {
-                s[b] = b'0' + pair % 10;
-            }
-        }
-        let at = r.below(s.len());
-        s[at] = b'0' + r.below(10) as u8;
-    }
-}
-
-/// An area with a text at its start; every other byte as it was.
-fn filled(text: &str, room: usize) -> Vec<u8> {
+/// The reason, the count and every byte of the area.
+fn correct(function: usize, input: Input<'_>) -> Result<usize, Difference> {
+    let (scheme, content) = (input.scheme, input.content);
+    let room = input.number as usize;
     let mut area = vec![FILL; room];
-    area[..text.len()].copy_from_slice(text.as_bytes());
-    area
-}
-
-fn complete(five: &Five, body: &str, r: &mut Random, row: &mut Row) -> Result<(), Difference> {
-    let room = r.below(5);
-    let mut area = vec![FILL; room];
-    let (scheme, body) = (five.scheme.as_bytes(), body.as_bytes());
-    let found = library::complete(scheme, body, &mut area);
-    let (done, written) = completed(scheme, body, room);
-    same(found, done)?;
-    same(area, filled(&written, room))?;
-    row.count(match done.reason {
-        0 => 0,
-        FORM => 1,
-        ZERO => 2,
-        NONE => 3,
-        _ => 5,
-    });
-    Ok(())
-}
-
-fn list(five: &Five, number: &str, r: &mut Random, row: &mut Row) -> Result<(), Difference> {
-    let required = room_for(number.len().max(1));
-    let room = match r.below(8) {
-        0 => required.saturating_sub(1),
-        1 => required,
-        _ => required + r.below(40),
-    };
-    let mut area = vec![FILL; room];
-    let (scheme, content) = (five.scheme.as_bytes(), number.as_bytes());
-    let found = library::list(scheme, content, &mut area);
-    let (done, written) = listed(scheme, content, room);
-    same(found, done)?;
-    same(area, filled(&written, room))?;
-    row.count(match done.reason {
-        0 if done.count == 0 => 1,
-        0 => 0,
-        FORM => 2,
-        ROOM => 4,
-        _ => 5,
-    });
-    Ok(())
-}
-
-/// A scheme that is none of the five: refused, with nothing written.
-fn beside(r: &mut Random, completed: &mut Row, listed: &mut Row) {
-    let scheme = *r.among(&["", "008", "00888", "0184", "0211", "9944", "0152"]);
-    let mut area = [FILL; 4];
-    let refused = Done {
-        reason: SCHEME,
-        count: 0,
-    };
-    let calls: [(&mut Row, Done, usize); 2] = [
+    let (found, (done, written)) = if function < LIST {
         (
-            completed,
-            library::complete(scheme.as_bytes(), b"12345678", &mut area),
-            4,
-        ),
+            library::complete(scheme, content, &mut area),
+            completed(scheme, content, room),
+        )
+    } else {
         (
-            listed,
-            library::list(scheme.as_bytes(), b"123456789", &mut area),
-            3,
-        ),
-    ];
-    for (row, found, outcome) in calls {
-        row.count(outcome);
-        if let Err(difference) = same((found, area), (refused, [FILL; 4])) {
-            row.differ(scheme, &difference);
+            library::list(scheme, content, &mut area),
+            listed(scheme, content, room),
+        )
+    };
+    same(found, done)?;
+    same_area(&area, written.as_bytes(), FILL)?;
+    Ok(outcome(done.reason, done.count))
+}
+
+fn outcome(reason: u32, count: usize) -> usize {
+    match reason {
+        0 if count == 0 => NOTHING,
+        0 => DONE,
+        answers::LONG => LONG,
+        answers::UTF8 => UTF8,
+        answers::FORM => FORM,
+        answers::ZERO => ZERO,
+        answers::NONE => NO_FIGURE,
+        answers::SCHEME => SCHEME,
+        answers::ROOM => ROOM,
+        _ => GOOD,
+    }
+}
+
+/// Compares completing (`first` 0) or listing (`first` `LIST`) by a scheme.
+fn compare(report: &mut Report, first: usize, scheme: &[u8], content: &[u8], room: usize) {
+    let mut schemes = FIVE.iter().map(|five| five.scheme.as_bytes());
+    let place = schemes.position(|five| five == scheme);
+    let input = Input {
+        scheme,
+        number: room as u64,
+        content,
+    };
+    report.compare(Of::Corrections, first + place.unwrap_or(FIVE.len()), input);
+}
+
+/// A random completion and a random list of one scheme; now and then of a content, by that scheme or any.
+pub fn random(r: &mut Random, report: &mut Report, content: &[u8]) {
+    let five = r.among(&FIVE);
+    let (body, number) = (input_numbers::body(r, five), input_numbers::number(r, five));
+    let (room, rooms) = (r.below(5), input_numbers::room(r, number.len()));
+    if r.one_in(8) {
+        let mut scheme = five.scheme.as_bytes().to_vec();
+        if r.one_in(2) {
+            fields::scheme(r, &mut scheme);
         }
+        compare(report, 0, &scheme, content, room);
+        return compare(report, LIST, &scheme, content, rooms);
+    }
+    compare(report, 0, five.scheme.as_bytes(), &body, room);
+    compare(report, LIST, five.scheme.as_bytes(), &number, rooms);
+}
+
+/// Contents with any scheme and with more and less room.
+pub fn any(contents: &[Vec<u8>], report: &mut Report) {
+    for content in contents {
+        for scheme in fields::schemes() {
+            for room in [0, 1, 2, 3, room_for(9), room_for(20)] {
+                compare(report, 0, &scheme, content, room);
+                compare(report, LIST, &scheme, content, room);
+            }
+        }
+    }
+}
+
+/// The numbers of a range, each as a body to complete and as a number whose corrections are listed.
+pub fn every(range: Range<u64>, report: &mut Report) {
+    for i in range {
+        let (five, n, width) = input_numbers::number_at(i);
+        let scheme = five.scheme.as_bytes();
+        let body = format!("{n:0width$}", width = width.min(five.body.1));
+        compare(report, 0, scheme, body.as_bytes(), 2);
+        let number = format!("{n:0width$}");
+        compare(report, LIST, scheme, number.as_bytes(), room_for(width));
     }
 }

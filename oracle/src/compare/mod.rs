@@ -1,7 +1,19 @@
-//! The comparisons, one file for each subject.
+//! The comparisons: a file for each subject, and what counts, divides and shows them.
 
-pub mod accounts;
-pub mod corrections;
-pub mod report;
-pub mod rules;
-pub mod text;
+mod accounts;
+mod answer;
+mod contents;
+mod corrections;
+mod difference;
+mod fields;
+mod input;
+mod lines;
+mod points;
+mod progress;
+mod report;
+mod rules;
+pub mod run;
+pub mod selftest;
+mod tally;
+mod text;
+mod work;

@@ -1,83 +1,53 @@
-//! The seventeen rules: the field check against the original's rules on an invoice with one field.
+//! The seventeen rules, each at a field that it reads: the field check against the original's rule on an invoice with that field.
 
-use oracle::answers::{LONG, UTF8};
+use oracle::fields::FIELDS;
 use oracle::library;
 use oracle::original::COMMON;
 use oracle::rules;
 
-use super::report::{Difference, Row, Subject, same};
+use super::answer::{self, ACCEPTED, CHECK, FORM, LONG, UNREAD, UTF8, ZERO};
+use super::difference::Difference;
+use super::input::Input;
+use super::tally::Kind;
 
-/// A scheme and a term at which each rule applies, in the order of `COMMON`.
-const FIELDS: [(&str, u32); 17] = [
-    ("0088", 34),
-    ("0192", 29),
-    ("0184", 30),
-    ("0208", 46),
-    ("0201", 47),
-    ("0210", 49),
-    ("9907", 34),
-    ("0211", 60),
-    ("0007", 61),
-    ("0151", 34),
-    ("0096", 29),
-    ("0198", 30),
-    ("0106", 46),
-    ("0190", 47),
-    ("9944", 49),
-    ("", 31),
-    ("0217", 60),
-];
+/// A rule that asks for a form alone, and one with a check figure.
+const FORMED: &[usize] = &[ACCEPTED, LONG, UTF8, FORM];
+const CHECKED: &[usize] = &[ACCEPTED, LONG, UTF8, FORM, CHECK];
 
-static OUTCOMES: [&str; 5] = ["LONG", "UTF8", "accepted", "refused", "let through"];
+/// Places of the rules: they stand in the order of `COMMON`.
+pub const R040: usize = 0;
+pub const R045: usize = 5;
+pub const R052: usize = 10;
 
-pub fn subjects() -> Vec<Subject> {
-    vec![
-        subject("rule 40", rule::<0>),
-        subject("rule 41", rule::<1>),
-        subject("rule 42", rule::<2>),
-        subject("rule 43", rule::<3>),
-        subject("rule 44", rule::<4>),
-        subject("rule 45", rule::<5>),
-        subject("rule 46", rule::<6>),
-        through("rule 47", rule::<7>),
-        subject("rule 49", rule::<8>),
-        subject("rule 50", rule::<9>),
-        subject("rule 52", rule::<10>),
-        subject("rule 53", rule::<11>),
-        subject("rule 54", rule::<12>),
-        subject("rule 55", rule::<13>),
-        subject("rule 561", rule::<14>),
-        through("rule 562", rule::<15>),
-        subject("rule 57", rule::<16>),
-    ]
-}
+pub static RULES: Kind = Kind {
+    outcomes: &answer::OUTCOMES,
+    functions: &[
+        ("rule 40", CHECKED),
+        ("rule 41", &[ACCEPTED, LONG, UTF8, FORM, CHECK, ZERO]),
+        ("rule 42", FORMED),
+        ("rule 43", CHECKED),
+        ("rule 44", FORMED),
+        ("rule 45", FORMED),
+        ("rule 46", FORMED),
+        ("rule 47", &[ACCEPTED, UNREAD, LONG, UTF8, FORM, CHECK]),
+        ("rule 49", CHECKED),
+        ("rule 50", CHECKED),
+        ("rule 52", FORMED),
+        ("rule 53", FORMED),
+        ("rule 54", FORMED),
+        ("rule 55", FORMED),
+        ("rule 561", FORMED),
+        ("rule 562", &[ACCEPTED, UNREAD, LONG, UTF8, FORM]),
+        ("rule 57", FORMED),
+    ],
+    parts: ["", "", "content"],
+    compare: rule,
+};
 
-type Compare = fn(&[u8], &mut Row) -> Result<(), Difference>;
-
-fn subject(function: &'static str, compare: Compare) -> Subject {
-    Subject {
-        function,
-        outcomes: &OUTCOMES[..4],
-        compare,
-    }
-}
-
-/// A rule that lets some contents through unread.
-fn through(function: &'static str, compare: Compare) -> Subject {
-    Subject {
-        outcomes: &OUTCOMES,
-        ..subject(function, compare)
-    }
-}
-
-fn rule<const I: usize>(content: &[u8], row: &mut Row) -> Result<(), Difference> {
-    let (scheme, term) = FIELDS[I];
-    let answer = rules::answer_by(COMMON[I], Some(scheme), term, content);
-    same(library::check(scheme.as_bytes(), term, content), answer)?;
-    row.count(match answer.reason {
-        LONG => 0,
-        UTF8 => 1,
-        _ => 1 + answer.verdict as usize,
-    });
-    Ok(())
+fn rule(i: usize, input: Input<'_>) -> Result<usize, Difference> {
+    let (scheme, term) = FIELDS[i];
+    answer::agreed(
+        library::check(scheme.as_bytes(), term, input.content),
+        rules::answer_by(COMMON[i], Some(scheme), term, input.content),
+    )
 }

@@ -5,79 +5,103 @@ use oracle::inputs::WHITE;
 use oracle::library::{self, AREA, Text};
 use oracle::text::{normalized, point_at, stripped};
 
-use super::report::{Difference, Row, Subject, same};
+use super::difference::{Difference, same, same_area};
+use super::input::Input;
+use super::report::{Of, Report};
+use super::tally::Kind;
 
-pub fn subjects() -> Vec<Subject> {
-    vec![
-        Subject {
-            function: "decode",
-            outcomes: &[
-                "past the end",
-                "not well-formed",
-                "1 byte",
-                "2 bytes",
-                "3 bytes",
-                "4 bytes",
-            ],
-            compare: decode,
-        },
-        Subject {
-            function: "normalize_space",
-            outcomes: &TEXT,
-            compare: normalize_space,
-        },
-        Subject {
-            function: "strip",
-            outcomes: &TEXT[..5],
-            compare: strip,
-        },
-    ]
+pub static DECODING: Kind = Kind {
+    outcomes: &[
+        "past the end",
+        "refused",
+        "1 byte",
+        "2 bytes",
+        "3 bytes",
+        "4 bytes",
+    ],
+    functions: &[("decode", &[0, 1, 2, 3, 4, 5])],
+    parts: ["", "place", "content"],
+    compare: decode,
+};
+
+fn decode(_: usize, input: Input<'_>) -> Result<usize, Difference> {
+    let at = input.number as usize;
+    let original = point_at(input.content, at);
+    same(library::decode(input.content, at), original)?;
+    let past = input.content.len() <= at;
+    Ok(if past { 0 } else { 1 + original.len })
 }
 
-/// Decoding at every place of a content, at its end and past it.
-fn decode(content: &[u8], row: &mut Row) -> Result<(), Difference> {
-    let end = content.len();
-    for at in (0..end + 5).chain([usize::MAX - 1, usize::MAX]) {
-        let original = point_at(content, at);
-        same((at, library::decode(content, at)), (at, original))?;
-        row.count(if end <= at { 0 } else { 1 + original.len });
+pub static WHITE_POINTS: Kind = Kind {
+    outcomes: &["white", "not white", "no code point"],
+    functions: &[("is_white", &[0, 1, 2])],
+    parts: ["", "number", ""],
+    compare: is_white,
+};
+
+fn is_white(_: usize, input: Input<'_>) -> Result<usize, Difference> {
+    let c = input.number as u32;
+    let point = char::from_u32(c);
+    let white = point.is_some_and(char::is_whitespace);
+    same(library::is_white(c), white)?;
+    Ok(match point {
+        Some(_) if white => 0,
+        Some(_) => 1,
+        None => 2,
+    })
+}
+
+/// Every number to far past the last code point, and those whose low bits are a white point.
+pub fn numbers() -> Vec<u32> {
+    let high = |c: char| (21..32).map(move |bit| u32::from(c) | 1 << bit);
+    (0..=0x20_0000)
+        .chain(WHITE.into_iter().flat_map(high))
+        .chain([u32::MAX])
+        .collect()
+}
+
+pub fn white_points(numbers: &[u32], report: &mut Report) {
+    for &c in numbers {
+        let input = Input {
+            number: u64::from(c),
+            ..Input::default()
+        };
+        report.compare(Of::WhitePoints, 0, input);
     }
-    Ok(())
 }
 
-/// What can come of a text; only normalising can change one and leave it as long.
-static TEXT: [&str; 6] = [
-    "LONG",
-    "UTF8",
-    "nothing left",
-    "unchanged",
-    "shorter",
-    "as long, other bytes",
-];
-
-fn normalize_space(content: &[u8], row: &mut Row) -> Result<(), Difference> {
-    text(content, row, library::normalize_space, normalized)
-}
-
-fn strip(content: &[u8], row: &mut Row) -> Result<(), Difference> {
-    text(content, row, library::strip, stripped)
-}
+/// Only normalising can change a text and leave it as long.
+pub static TEXTS: Kind = Kind {
+    outcomes: &[
+        "LONG",
+        "UTF8",
+        "nothing left",
+        "unchanged",
+        "shorter",
+        "same length",
+    ],
+    functions: &[
+        ("normalize_space", &[0, 1, 2, 3, 4, 5]),
+        ("strip", &[0, 1, 2, 3, 4]),
+    ],
+    parts: ["", "", "content"],
+    compare: text,
+};
 
 /// The numbers, the text, and zeros after it.
-fn text(
-    content: &[u8],
-    row: &mut Row,
-    library: fn(&[u8], &mut [u8; AREA]) -> Text,
-    original: fn(&[u8]) -> (Text, String),
-) -> Result<(), Difference> {
+fn text(function: usize, input: Input<'_>) -> Result<usize, Difference> {
+    let content = input.content;
     let mut area = [0xaa; AREA];
-    let found = library(content, &mut area);
-    let (head, text) = original(content);
+    let (found, (head, text)) = match function {
+        0 => (
+            library::normalize_space(content, &mut area),
+            normalized(content),
+        ),
+        _ => (library::strip(content, &mut area), stripped(content)),
+    };
     same(found, head)?;
-    same(&area[..text.len()], text.as_bytes())?;
-    same(area[text.len()..].iter().position(|&b| b != 0), None)?;
-    row.count(outcome(content, head, &text));
-    Ok(())
+    same_area(&area, text.as_bytes(), 0)?;
+    Ok(outcome(content, head, &text))
 }
 
 fn outcome(content: &[u8], head: Text, text: &str) -> usize {
@@ -89,29 +113,4 @@ fn outcome(content: &[u8], head: Text, text: &str) -> usize {
         _ if text.len() < content.len() => 4,
         _ => 5,
     }
-}
-
-pub fn white_points() -> Row {
-    let mut row = Row::new("is_white", &["white", "not white", "no code point"]);
-    for c in numbers() {
-        let point = char::from_u32(c);
-        let white = point.is_some_and(char::is_whitespace);
-        if let Err(difference) = same(library::is_white(c), white) {
-            row.differ(&format!("{c:#x}"), &difference);
-        }
-        row.count(match point {
-            Some(_) if white => 0,
-            Some(_) => 1,
-            None => 2,
-        });
-    }
-    row
-}
-
-/// Every number to far past the last code point, and those whose low bits are a white point.
-fn numbers() -> impl Iterator<Item = u32> {
-    let high = |c: char| (21..32).map(move |bit| u32::from(c) | 1 << bit);
-    (0..=0x20_0000)
-        .chain(WHITE.into_iter().flat_map(high))
-        .chain([u32::MAX])
 }

@@ -1,0 +1,147 @@
+//! What a function is called with, and how an input is made smaller.
+
+/// A scheme, a number (a term, a room, a place, a code point) and a content. A function reads those that it has words for.
+#[derive(Clone, Copy, Default)]
+pub struct Input<'a> {
+    pub scheme: &'a [u8],
+    pub number: u64,
+    pub content: &'a [u8],
+}
+
+/// An input that is kept. Of two, the one with fewer bytes is the smaller, then the one with the lower number.
+#[derive(Clone, PartialEq, Eq, PartialOrd, Ord)]
+pub struct Kept {
+    bytes: usize,
+    number: u64,
+    content: Vec<u8>,
+    scheme: Vec<u8>,
+}
+
+impl From<Input<'_>> for Kept {
+    fn from(input: Input<'_>) -> Self {
+        Self {
+            bytes: input.scheme.len() + input.content.len(),
+            number: input.number,
+            content: input.content.to_vec(),
+            scheme: input.scheme.to_vec(),
+        }
+    }
+}
+
+impl Kept {
+    pub fn input(&self) -> Input<'_> {
+        Input {
+            scheme: &self.scheme,
+            number: self.number,
+            content: &self.content,
+        }
+    }
+}
+
+/// Leaves out bytes, lowers the number and makes bytes plainer, for as long as the input still `differs`.
+pub fn smallest(input: Input<'_>, differs: impl Fn(Input<'_>) -> bool) -> Kept {
+    let mut best = Kept::from(input);
+    loop {
+        let now = best.input();
+        let content = fewer(now.content, |content| differs(Input { content, ..now }));
+        let now = Input {
+            content: &content,
+            ..now
+        };
+        let scheme = fewer(now.scheme, |scheme| differs(Input { scheme, ..now }));
+        let now = Input {
+            scheme: &scheme,
+            ..now
+        };
+        let number = lower(now.number, |number| differs(Input { number, ..now }));
+        let now = Input { number, ..now };
+        let content = plainer(now.content, |content| differs(Input { content, ..now }));
+        let now = Input {
+            content: &content,
+            ..now
+        };
+        let scheme = plainer(now.scheme, |scheme| differs(Input { scheme, ..now }));
+        let next = Kept::from(Input {
+            scheme: &scheme,
+            ..now
+        });
+        if next == best {
+            return best;
+        }
+        best = next;
+    }
+}
+
+/// Drops bytes, in halves, quarters and so on; at last in fours, threes, twos and ones, as many as a point takes.
+fn fewer(bytes: &[u8], differs: impl Fn(&[u8]) -> bool) -> Vec<u8> {
+    let mut best = bytes.to_vec();
+    let mut size = best.len();
+    while 0 < size {
+        let mut at = 0;
+        while at < best.len() {
+            let mut less = best.clone();
+            less.drain(at..best.len().min(at + size));
+            if differs(&less) {
+                best = less;
+            } else {
+                at += size;
+            }
+        }
+        size = if size <= 4 {
+            size - 1
+        } else {
+            (size / 2).max(4)
+        };
+    }
+    best
+}
+
+/// Takes off as much as can be taken off, in steps that become smaller.
+fn lower(number: u64, differs: impl Fn(u64) -> bool) -> u64 {
+    let mut best = number;
+    let mut step = best;
+    while 0 < step {
+        if step <= best && differs(best - step) {
+            best -= step;
+        } else {
+            step /= 2;
+        }
+    }
+    best
+}
+
+/// Puts a zero for each byte.
+fn plainer(bytes: &[u8], differs: impl Fn(&[u8]) -> bool) -> Vec<u8> {
+    let mut best = bytes.to_vec();
+    for at in 0..best.len() {
+        let byte = std::mem::replace(&mut best[at], b'0');
+        if byte != b'0' && !differs(&best) {
+            best[at] = byte;
+        }
+    }
+    best
+}
+
+/// Bytes as they are written in Rust, but for long runs of one byte.
+pub fn shown(bytes: &[u8]) -> String {
+    const LONG: usize = 32;
+    let mut words = Vec::new();
+    let mut short = 0..0;
+    let literal = |bytes: &[u8]| format!("b\"{}\"", bytes.escape_ascii());
+    for run in bytes.chunk_by(|a, b| a == b) {
+        let end = short.end + run.len();
+        if run.len() < LONG {
+            short.end = end;
+            continue;
+        }
+        if !short.is_empty() {
+            words.push(literal(&bytes[short.clone()]));
+        }
+        words.push(format!("{} times {}", run.len(), literal(&run[..1])));
+        short = end..end;
+    }
+    if !short.is_empty() || words.is_empty() {
+        words.push(literal(&bytes[short]));
+    }
+    words.join(", then ")
+}
