@@ -2,6 +2,8 @@
 
 use std::ops::Range;
 
+use oracle::fields::FIELDS;
+use oracle::identifiers::made_for;
 use oracle::random::Random;
 use oracle::{exhaustive, input_lines, input_numbers, inputs};
 
@@ -103,8 +105,13 @@ fn random(seed: u64, range: Range<u64>, report: &mut Report) {
     }
 }
 
-/// Long contents cost more and tell less: three of four are drawn again.
+/// A random content, now and then one made for a rule. Long ones cost more and tell less: three of four are drawn again.
 fn draw(r: &mut Random, content: &mut Vec<u8>) {
+    if r.one_in(16) {
+        let (scheme, _) = r.among(&FIELDS);
+        *content = made_for(r, scheme.as_bytes());
+        return;
+    }
     inputs::random(r, content);
     if 100 < content.len() && !r.one_in(4) {
         inputs::random(r, content);
