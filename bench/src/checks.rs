@@ -1,104 +1,106 @@
-//! Field checks, accounts and lists beside the original's predicates.
+//! The field check beside the original's predicates.
 
 use std::hint::black_box;
 
-use oracle::original::{self, Predicates};
-use oracle::{corrections, library};
+use oracle::library::{self, Answer};
+use oracle::original::COMMON;
+use oracle::rules;
 
-use crate::Case;
+use crate::case::Case;
+use crate::predicates::{self, accepts, plain};
+use crate::row::Function;
+
+static CHECK: Function = Function {
+    name: "check",
+    lean: "the rule's predicate of the original, of a `&str`: which rule is asked is told to it, and it gives no reason",
+    plain: "the rule is chosen by scheme and term, `str::from_utf8`, then the predicate",
+};
 
 pub fn cases() -> Vec<Case> {
-    let mut cases = Vec::new();
-    for (name, scheme, content, accepts) in FIELDS {
-        cases.push(Case {
-            name: format!("check {scheme}, {name}"),
-            library: Box::new(move || {
-                black_box(library::check(
-                    black_box(scheme.as_bytes()),
-                    34,
-                    black_box(content.as_bytes()),
-                ));
-            }),
-            original: Box::new(move || {
-                black_box(accepts(black_box(content)));
-            }),
-        });
-    }
-    for (name, content) in IBANS {
-        cases.push(Case {
-            name: format!("iban, {name}"),
-            library: Box::new(move || {
-                black_box(library::is_valid_iban_checksum(black_box(
-                    content.as_bytes(),
-                )));
-            }),
-            original: Box::new(move || {
-                black_box(original::is_valid_iban_checksum(black_box(content)));
-            }),
-        });
-    }
-    for (scheme, number) in LISTS {
-        let mut area = [0; 1024];
-        cases.push(Case {
-            name: format!("list {scheme}, {} digits", number.len()),
-            library: Box::new(move || {
-                black_box(library::list(
-                    black_box(scheme.as_bytes()),
-                    black_box(number.as_bytes()),
-                    black_box(&mut area),
-                ));
-            }),
-            original: Box::new(move || {
-                black_box(corrections::every(scheme, black_box(number)));
-            }),
-        });
-    }
+    let long = "0".repeat(library::AREA).leak();
+    let mut cases = accepted_by_each();
+    cases.extend(others());
+    cases.push(read_by::<40>("0088", 34, "1,024 zeros", long));
+    cases.push(case("0060", 34, "no rule", "123456789"));
     cases
 }
 
-type Field = (&'static str, &'static str, &'static str, fn(&str) -> bool);
+/// A content for each rule that it accepts, the rules by number.
+fn accepted_by_each() -> Vec<Case> {
+    let cases = [
+        accepted_by::<40>("0088", 34, "13 digits", "4012345000009"),
+        accepted_by::<41>("0192", 34, "9 digits", "123456785"),
+        accepted_by::<42>("0184", 34, "DK and 8 digits", "DK12345678"),
+        accepted_by::<43>("0208", 34, "10 digits", "1234567894"),
+        accepted_by::<44>("0201", 34, "6 letters and digits", "UFXY7Z"),
+        accepted_by::<45>("0210", 34, "codice fiscale", "RSSMRA85T10A562S"),
+        accepted_by::<46>("9907", 34, "codice fiscale of 11 digits", "12345678901"),
+        accepted_by::<47>("0211", 34, "IT and 11 digits", "IT12345678903"),
+        accepted_by::<49>("0007", 34, "10 digits", "1234567897"),
+        accepted_by::<50>("0151", 34, "11 digits", "51824753556"),
+        accepted_by::<52>("0096", 34, "10 digits", "1234567890"),
+        accepted_by::<53>("0198", 34, "DK and 8 digits", "DK12345678"),
+        accepted_by::<54>("0106", 34, "8 digits", "12345678"),
+        accepted_by::<55>("0190", 34, "20 digits", "12345678901234567890"),
+        accepted_by::<57>("0217", 34, "12 digits", "123456789012"),
+        accepted_by::<561>("9944", 34, "VAT number", "NL123456789B12"),
+        accepted_by::<562>("", 31, "VAT number", "NL123456789B12"),
+    ];
+    let (rules, cases): (Vec<_>, Vec<_>) = cases.into_iter().unzip();
+    let mut published = COMMON.map(rules::number);
+    published.sort();
+    assert_eq!(rules, published);
+    cases
+}
 
-const FIELDS: [Field; 8] = [
-    (
-        "13 digits",
-        "0088",
-        "4012345000009",
-        Predicates::COMMON_R040,
-    ),
-    ("9 digits", "0192", "123456785", Predicates::COMMON_R041),
-    ("10 digits", "0208", "1234567894", Predicates::COMMON_R043),
-    ("10 digits", "0007", "1234567897", Predicates::COMMON_R049),
-    ("11 digits", "0151", "51824753556", Predicates::COMMON_R050),
-    (
-        "codice fiscale",
-        "0210",
-        "RSSMRA85T10A562S",
-        Predicates::COMMON_R045,
-    ),
-    (
-        "partita IVA",
-        "0211",
-        "IT12345678903",
-        Predicates::COMMON_R047,
-    ),
-    (
-        "VAT number",
-        "9944",
-        "NL123456789B12",
-        Predicates::COMMON_R056_1,
-    ),
-];
+/// Contents that are refused or let through, or have white around them.
+fn others() -> [Case; 10] {
+    [
+        read_by::<40>("0088", 34, "wrong figure", "4012345000008"),
+        read_by::<40>("0088", 34, "a letter, refused", "401234500000X"),
+        read_by::<40>("0088", 34, "white around", " 4012345000009\u{a0}"),
+        read_by::<41>("0192", 34, "nine zeros, refused", "000000000"),
+        read_by::<42>("0184", 34, "a blank, refused", " 12345678"),
+        read_by::<43>("0208", 34, "wrong figure", "1234567895"),
+        read_by::<45>("0210", 34, "a digit too early, refused", "RSSMR485T10A562S"),
+        read_by::<47>("0211", 34, "another country, let through", "DE123456789"),
+        read_by::<50>("0151", 34, "10 digits, refused", "5182475355"),
+        read_by::<562>("", 31, "another country, let through", "DE123456789"),
+    ]
+}
 
-const IBANS: [(&str, &str); 2] = [
-    ("22 characters", "DE89370400440532013000"),
-    ("with blanks", "FR14 2004 1010 0505 0001 3M02 606"),
-];
+fn accepted_by<const RULE: u32>(
+    scheme: &'static str,
+    term: u32,
+    of: &str,
+    content: &'static str,
+) -> (u32, Case) {
+    assert_eq!(answer(scheme, term, content).verdict, 1, "{content}");
+    (RULE, read_by::<RULE>(scheme, term, of, content))
+}
 
-const LISTS: [(&str, &str); 6] = [
-    ("0088", "4012345000008"),
-    ("0088", "12345678901234567891"),
-    ("0192", "123456784"),
-    ("0208", "1234567895"),
-    ("0007", "1234567896"),
-    ("0151", "51824753557"),
-];
+/// The rule is known when this is compiled, so that its predicate is called directly.
+fn read_by<const RULE: u32>(
+    scheme: &'static str,
+    term: u32,
+    of: &str,
+    content: &'static str,
+) -> Case {
+    assert_eq!(answer(scheme, term, content).rule, RULE, "{content}");
+    let of = format!("{RULE}: {of}");
+    case(scheme, term, of, content).lean(move || accepts(RULE, black_box(content)))
+}
+
+fn case(scheme: &'static str, term: u32, of: impl Into<String>, content: &'static str) -> Case {
+    let rust = predicates::check(scheme.as_bytes(), term, content.as_bytes());
+    assert_eq!(plain(answer(scheme, term, content)), rust, "{content}");
+    let (scheme, content) = (scheme.as_bytes(), content.as_bytes());
+    Case::new(&CHECK, of, move || {
+        library::check(black_box(scheme), black_box(term), black_box(content))
+    })
+    .plain(move || predicates::check(black_box(scheme), black_box(term), black_box(content)))
+}
+
+fn answer(scheme: &str, term: u32, content: &str) -> Answer {
+    library::check(scheme.as_bytes(), term, content.as_bytes())
+}
