@@ -16,6 +16,7 @@ LIBDIR ?= $(PREFIX)/lib
 INCLUDEDIR ?= $(PREFIX)/include
 PKGCONFIGDIR ?= $(LIBDIR)/pkgconfig
 INSTALL ?= install
+OBJCOPY ?= objcopy
 
 OUT := target/c
 PROVED := target/staticlib/libpartyid.a
@@ -35,12 +36,13 @@ $(PROVED): $(SOURCES)
 	@echo 'proving the library; from nothing this takes some minutes ..'
 	@rt staticlib partyid >$(OUT)/rt.log 2>&1 || { cat $(OUT)/rt.log >&2; exit 1; }
 
+# Where a loop lies to the boundaries of a line of the cache can double its time: each function begins at one, wherever a program puts it.
 $(OUT)/libpartyid.a: $(PROVED)
 	@mkdir -p $(OUT)
-	cp $< $@
+	$(OBJCOPY) --set-section-alignment '.text*=64' $< $@
 
 # -z defs refuses a symbol that neither the archive nor the C library has, -z text code that is not position-independent.
-$(OUT)/$(SONAME): $(PROVED) include/partyid.map
+$(OUT)/$(SONAME): $(OUT)/libpartyid.a include/partyid.map
 	@mkdir -p $(OUT)
 	$(CC) -shared -Wl,-soname,$(SONAME) -Wl,--version-script=include/partyid.map -Wl,-z,defs -Wl,-z,text -Wl,-z,relro -Wl,-z,now \
 	    $(LDFLAGS) -o $@ -Wl,--whole-archive $< -Wl,--no-whole-archive

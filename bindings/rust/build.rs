@@ -1,4 +1,4 @@
-//! Finds libpartyid.a: in the folder that PARTYID_LIB_DIR names, else where `rt staticlib partyid` puts it in the repository.
+//! Finds libpartyid.a: in the folder that PARTYID_LIB_DIR names, else where `make` puts it in the repository.
 
 use std::env;
 use std::path::PathBuf;
@@ -20,6 +20,6 @@ fn main() {
 
 /// A relative folder is meant from this crate's folder on.
 fn folder() -> PathBuf {
-    let named = env::var_os("PARTYID_LIB_DIR").unwrap_or("../../target/staticlib".into());
+    let named = env::var_os("PARTYID_LIB_DIR").unwrap_or("../../target/c".into());
     PathBuf::from(env!("CARGO_MANIFEST_DIR")).join(named)
 }
