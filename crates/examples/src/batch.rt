@@ -31,7 +31,7 @@ fn show_in(room: usize, text: &[u8])
 }
 
 // The room and the text, parted by a space.
-pub fn show_batch(field: &[u8]) {
+pub(crate) fn show_batch(field: &[u8]) {
     let room_end = word_end(field, 0);
     let start = behind(field, room_end);
     let n = field.len();

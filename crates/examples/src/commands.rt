@@ -168,7 +168,7 @@ fn call(command: u8, content: &[u8]) {
     }
 }
 
-pub fn run(line: &[u8]) {
+pub(crate) fn run(line: &[u8]) {
     if line.len() == 0 {
         return;
     }

@@ -43,7 +43,7 @@ fn take_byte(s: &[u8], at: usize) -> Taken
 }
 
 // The content goes to the area; its length comes back. What the area can't hold is left out.
-pub fn unescape(s: &[u8], out: &mut [u8; 2048]) -> usize
+pub(crate) fn unescape(s: &[u8], out: &mut [u8; 2048]) -> usize
     requires { ⌜ length (now out) ≡ 2048 ⌝ }
     ensures { λ r. ⌜ (r ≤ 2048) × (length (now (out .exit)) ≡ 2048) ⌝ }
 {
@@ -79,7 +79,7 @@ fn show_byte(b: u8) {
     io::print_hex(1, b as u64, 2);
 }
 
-pub fn show(s: &[u8]) {
+pub(crate) fn show(s: &[u8]) {
     let mut i: usize = 0;
     while i < s.len() {
         show_byte(s[i]);

@@ -3,7 +3,7 @@ ghost use Prim.Native.Nat.{_≤_};
 ghost use lib.ListN.{length};
 
 // Where the word that begins at `at` ends: at its space, or at the end.
-pub fn word_end(s: &[u8], at: usize) -> usize
+pub(crate) fn word_end(s: &[u8], at: usize) -> usize
     requires { ⌜ at ≤ length (now s) ⌝ }
     ensures { λ r. ⌜ (at ≤ r) × (r ≤ length (now (s .entry))) ⌝ }
 {
@@ -18,7 +18,7 @@ pub fn word_end(s: &[u8], at: usize) -> usize
 }
 
 // The place behind the space at `end`, or the end.
-pub fn behind(s: &[u8], end: usize) -> usize
+pub(crate) fn behind(s: &[u8], end: usize) -> usize
     requires { ⌜ end ≤ length (now s) ⌝ }
     ensures { λ r. ⌜ (end ≤ r) × (r ≤ length (now (s .entry))) ⌝ }
 {
@@ -54,7 +54,7 @@ fn more(high: u64, b: u8) -> u64
 }
 
 // A decimal number; what passes 32 bits counts as the most there is.
-pub fn decimal(s: &[u8]) -> u32 {
+pub(crate) fn decimal(s: &[u8]) -> u32 {
     let mut n: u64 = 0;
     let mut i: usize = 0;
     while i < s.len() {
@@ -65,7 +65,7 @@ pub fn decimal(s: &[u8]) -> u32 {
 }
 
 // A number, or the most that it may be.
-pub fn at_most(n: u32, most: usize) -> usize
+pub(crate) fn at_most(n: u32, most: usize) -> usize
     ensures { λ r. ⌜ r ≤ most ⌝ }
 {
     let n = n as usize;

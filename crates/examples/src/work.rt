@@ -35,7 +35,7 @@ fn show_in(command: u8, room: usize, scheme: &[u8], content: &[u8])
 }
 
 // The room, the scheme and the content, parted by spaces.
-pub fn show_work(command: u8, field: &[u8]) {
+pub(crate) fn show_work(command: u8, field: &[u8]) {
     let room_end = word_end(field, 0);
     let scheme_start = behind(field, room_end);
     let scheme_end = word_end(field, scheme_start);
