@@ -2,12 +2,12 @@
 use mathlib.Core.Path.{_≡_, refl, sym, _∙_, ap}
 use mathlib.Core.Bool.{true}
 use mathlib.Core.List.{List, [], _∷_, _++_, append-nil}
-use Prim.Native.Nat.{ℕ, zero, suc, _+_, _-_, _*_, _/_, _≤_, _<_, min}
+use Prim.Native.Nat.{ℕ, suc, _+_, _-_, _*_, _/_, _≤_, _<_, min}
 use native.Mathlib.Numerals.{add-one}
 use native.Mathlib.Omega.{arith}
 use lib.Dec.{ltb}
 use lib.ListN.{length, take, drop, set, length-append, length-drop, length-set, drop-of-length-le}
-use lib.Seq.{sets, take-all, take-nil, length-take-le}
+use lib.Seq.{take-all, take-nil, length-take-le}
 use borrow.Author.Tests.{ltb-true, ltb-false}
 use Rattle.answer.specs.declared.record.Answer.{Answer}
 use Rattle.answer.specs.Numbers.{verdictNumber, severityNumber, reasonNumber}
