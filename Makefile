@@ -34,7 +34,7 @@ all: $(OUT)/libpartyid.a $(OUT)/libpartyid.so $(OUT)/partyid.pc
 $(PROVED): $(SOURCES)
 	@mkdir -p $(OUT)
 	@echo 'proving the library; from nothing this takes some minutes ..'
-	@rt staticlib partyid >$(OUT)/rt.log 2>&1 || { cat $(OUT)/rt.log >&2; exit 1; }
+	@machine/staticlib partyid >$(OUT)/rt.log 2>&1 || { cat $(OUT)/rt.log >&2; exit 1; }
 
 # Where a loop lies to the boundaries of a line of the cache can double its time: each function begins at one, wherever a program puts it.
 $(OUT)/libpartyid.a: $(PROVED)

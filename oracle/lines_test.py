@@ -11,6 +11,7 @@ import paper
 
 ROOT = pathlib.Path(__file__).resolve().parent.parent
 PROGRAM = ROOT / "target" / "bin" / "checklines"
+COMMAND = [ROOT / "machine" / "run", PROGRAM]
 TERMS = paper.SCHEME_TERMS + paper.VAT_TERMS
 
 # ---- contents
@@ -155,7 +156,7 @@ KINDS = (usual, usual, usual, usual, usual, usual, short_lines, long_lines, at_t
 
 def run(data, rng):
     """The program's output on an input that is cut at random places, and in how many pieces it was cut."""
-    process = subprocess.Popen([PROGRAM], stdin=subprocess.PIPE, stdout=subprocess.PIPE, bufsize=0)
+    process = subprocess.Popen(COMMAND, stdin=subprocess.PIPE, stdout=subprocess.PIPE, bufsize=0)
     got = []
     reader = threading.Thread(target=lambda: got.append(process.stdout.read()))
     reader.start()
