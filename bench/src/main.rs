@@ -37,7 +37,9 @@ fn main() {
 
 fn compare(rounds: usize, instructions: bool) {
     table::print(&run::at_every_place(rounds), rounds);
-    if instructions {
+    if !programs::ARE_TIMED {
+        println!("\nThe line program is not timed: it runs under an emulator here.");
+    } else if instructions {
         programs::print_instructions();
     }
 }

@@ -18,15 +18,16 @@ pub fn here(rounds: usize) {
     let input = some_lines::some_lines(programs::LINES);
     let mut cases = cases(&input);
     assert_eq!(functions_of(&cases), functions_of_header());
-    let mut programs = Programs::new(&input);
+    let mut programs = programs::ARE_TIMED.then(|| Programs::new(&input));
     for round in 0..rounds {
         show(round, rounds);
         cases.iter_mut().for_each(|case| case.round(round));
-        programs.round(round);
+        programs.iter_mut().for_each(|all| all.round(round));
     }
     show(rounds, rounds);
     println!("{}", place::offset());
-    let rows = cases.iter().map(Case::row).chain(programs.rows());
+    let of_programs = programs.iter().flat_map(Programs::rows);
+    let rows = cases.iter().map(Case::row).chain(of_programs);
     rows.for_each(|row| println!("{}", row.line()));
 }
 

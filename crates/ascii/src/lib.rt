@@ -29,18 +29,17 @@ pub fn is_plain(c: u32) -> bool
     is_digit(c) | is_letter(c)
 }
 
-// Whether c stands in a list.
+// Whether c stands in a list. Without a way out of its loop the compiler compares several entries at once.
 pub fn among(c: u32, list: &[u32]) -> bool
     ensures { λ r. ⌜ r ≡ among c (now (list .entry)) ⌝ }
 {
+    let mut found = false;
     let mut i: usize = 0;
     while i < list.len() {
-        if list[i] == c {
-            return true;
-        }
+        found = found | (list[i] == c);
         i += 1;
     }
-    false
+    found
 }
 
 // Whether two texts are the same, byte for byte.

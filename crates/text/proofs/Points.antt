@@ -5,14 +5,20 @@ use mathlib.Core.Bool.{Bool, true, false}
 use Prim.Native.Nat.{ℕ, zero, suc, _+_, _-_, _≤_, _<_}
 use native.Mathlib.Nat.{add-zero, suc-add, add-suc}
 use native.Mathlib.Omega.{arith}
+use borrow.Author.Tests.{leb-true}
+use lib.Dec.{leb}
 use lib.ListN.{length, take, drop, length-drop, drop-of-length-le}
 use lib.Seq.{drop-nil, drop-drop, drop-cons}
 use Rattle.text.specs.declared.utf8.Step.{Step}
 use Rattle.text.specs.declared.utf8.Step.the-variants.{Point, Refused}
 use Rattle.ascii.specs.Pick.{pick}
+use Rattle.ascii.specs.Class.{all}
+use Rattle.ascii.proofs.Class.{all-first, all-rest}
+use Rattle.answer.specs.declared.reason.Reason.the-variants.{NoReason}
 use Rattle.text.specs.Utf8.{two, three, four, stepOf}
 use Rattle.text.specs.Content.{Piece, Cell, Content, refused, content, withFirst, contentFrom, cells}
 use Rattle.text.specs.Answer.{unread, onContent}
+use Rattle.text.proofs.Rows.{row-1}
 
 -- a point takes one byte at least, and no more than there are
 abbrev Good : List ℕ → Step → Type 0
@@ -79,6 +85,14 @@ unroll-list o c (suc m) (a ∷ l) e =
 unread-first : (p : Piece) (c : Content) → unread c ≡ unread (withFirst p c)
 unread-first p refused = refl
 unread-first p (content ps) = refl
+
+-- bytes that are code points by themselves can be read
+pub unread-ascii : (o : ℕ) (s : List ℕ) → all (λ b. leb b 0x7f) s ≡ true → unread (contentFrom o 0 s) ≡ NoReason
+unfolding contentFrom
+unread-ascii o [] e = refl
+unread-ascii o (a ∷ l) e =
+    rw (row-1 a l (leb-true a 0x7f (all-first _ a l e)))
+    (sym (unread-first _ (contentFrom (suc o) 0 l)) ∙ unread-ascii (suc o) l (all-rest _ a l e))
 
 module _ (s : List ℕ) (at : ℕ) where
   abbrev pub rest : Content

@@ -1,0 +1,63 @@
+-- `text::read::is_ascii` meets its contract: the bytes before i passed, and those from i on pass, exactly when all do.
+use mathlib.Core.Path.{_≡_, refl, sym, _∙_}
+use mathlib.Core.Bool.{Bool, true, false, _&&_}
+use mathlib.Core.List.{List}
+use Prim.Native.Nat.{ℕ, _+_, _-_, _≤_, _<_}
+use native.Mathlib.Numerals.{add-one}
+use native.Mathlib.Omega.{arith}
+use lib.Dec.{leb}
+use lib.ListN.{length, getD, drop, drop-of-length-le}
+use lib.Seq.{drop-cons}
+use Rattle.ascii.specs.Class.{all}
+use Rattle.text.proofs.read.is_ascii.Statement.{statement}
+use Rattle.text.proofs.read.is_ascii.Tie as tie
+
+abbrev plain : ℕ → Bool
+plain b = leb b 0x7f
+
+and-assoc : (t u v : Bool) → ((t && u) && v) ≡ (t && (u && v))
+and-assoc true u v = refl
+and-assoc false u v = refl
+
+and-last : (t : Bool) → (t && true) ≡ t
+and-last true = refl
+and-last false = refl
+
+module _ (s : List ℕ) (ascii : Bool) (i : ℕ) (e : (ascii && all plain (drop i s)) ≡ all plain s) where
+  step : i < length s → all plain (drop i s) ≡ (leb (getD s i 0) 0x7f && all plain (drop (i + 1) s))
+  unfolding all
+  step h = rw (add-one, drop-cons s i 0)
+
+  next : i < length s → ((ascii && leb (getD s i 0) 0x7f) && all plain (drop (i + 1) s)) ≡ all plain s
+  next h = and-assoc ascii _ _ ∙ (rw (step h) at e)
+
+  done : length s ≤ i → ascii ≡ all plain s
+  unfolding all
+  done h = sym (and-last ascii) ∙ (rw (drop-of-length-le s h) at e)
+
+abbrev Inv-loop : tie.InvT-loop
+Inv-loop s ascii₀ i₀ ascii i = (i ≤ length s) × ((ascii && all plain (drop i s)) ≡ all plain s)
+
+abbrev μ-loop : tie.MeasureT-loop
+μ-loop s ascii₀ i₀ ascii i = length s - i
+
+loop-holds : tie.Need-loop-holds Inv-loop μ-loop
+loop-holds c = (omega arith, refl)
+
+shared-slice-read-ascii : tie.Need-shared-slice-read-ascii Inv-loop μ-loop
+shared-slice-read-ascii c = omega arith
+
+add-i : tie.Need-add-i Inv-loop μ-loop
+add-i c = omega arith
+
+loop-less : tie.Need-loop-less Inv-loop μ-loop
+loop-less c = omega arith
+
+loop-again : tie.Need-loop-again Inv-loop μ-loop
+loop-again c = let d = c .before .before .loop in (omega arith, next _ (d .ascii) (d .i) (d .inv .1) (omega arith))
+
+returns : tie.Need-returns Inv-loop μ-loop
+returns c = let d = c .before .loop in done _ (d .ascii) (d .i) (d .inv .1) (omega arith)
+
+pub is-ascii-spec : {M : Type 1} → statement M
+is-ascii-spec = tie.close (tie.spec Inv-loop μ-loop loop-holds shared-slice-read-ascii add-i loop-less loop-again returns)
