@@ -1,6 +1,6 @@
 -- The classes as bounds, and lists whose every entry passes a test. Assumes nothing.
 use mathlib.Core.Path.{_≡_, refl}
-use mathlib.Core.Bool.{Bool, true, false}
+use mathlib.Core.Bool.{Bool, true, false, and-false}
 use mathlib.Core.List.{List, [], _∷_, _++_}
 use Prim.Native.Nat.{ℕ, zero, suc, _-_, _≤_, _<_}
 use native.Mathlib.Omega.{arith}
@@ -8,7 +8,7 @@ use borrow.Author.Tests.{le-leb, lt-leb, leb-true}
 use lib.Dec.{leb}
 use lib.ListN.{length, getD, take, drop}
 use Rattle.ascii.specs.Class.{within, isDigit, all}
-use Rattle.ascii.proofs.Tests.{and-true, true-and, and-false}
+use Rattle.ascii.proofs.Tests.{and-true, true-and}
 
 pub inside : (low high x : ℕ) → low ≤ x → x ≤ high → within low high x ≡ true
 unfolding within

@@ -1,6 +1,6 @@
 -- Laws of the definitions, for the code's proofs. Assumes nothing.
 use mathlib.Core.Path.{_≡_, refl, _∙_, sym}
-use mathlib.Core.Bool.{Bool, true, false, _&&_}
+use mathlib.Core.Bool.{Bool, true, false, _&&_, and-true}
 use mathlib.Core.List.{List, [], _∷_}
 use Prim.Native.Nat.{ℕ, suc, _+_, _-_, _≤_, _<_}
 use native.Mathlib.Numerals.{add-one}
@@ -69,14 +69,10 @@ less a b false h = lt-leb (a - b) 0 (omega (arith, leb-false a b h))
 pub empty-drop : (s : List ℕ) (i : ℕ) → isEmpty (drop i s) ≡ leb (length s) i
 empty-drop s i = empty-length (drop i s) ∙ rw length-drop (less (length s) i (leb (length s) i) refl)
 
-pub and-right : (a : Bool) → a && true ≡ a
-and-right true = refl
-and-right false = refl
-
 -- one point
 pub one-point : (p : ℕ → Bool) (s : List ℕ) (i : ℕ) → i < length s → p (getD s i 0) ≡ all p (take 1 (drop i s))
 unfolding all
-one-point p s i h = rw (drop-cons s i 0 h) (sym (and-right (p (getD s i 0))))
+one-point p s i h = rw (drop-cons s i 0 h) (sym (and-true (p (getD s i 0))))
 
 -- the groups one after another
 module _ (g : Group) (gs : List Group) (cs ats : List ℕ) where

@@ -1,6 +1,7 @@
 -- What an answer of `codiceFault` means. Assumes nothing.
 use mathlib.Core.Path.{_≡_, refl, _∙_, ap}
 use mathlib.Core.Bool.{Bool, true, false, _&&_}
+use mathlib.Core.Bool as bool
 use mathlib.Core.List.{List, [], _∷_}
 use Prim.Native.Nat.{ℕ, _≤_}
 use native.Mathlib.Omega.{arith}
@@ -20,7 +21,6 @@ use Rattle.forms.proofs.Follows.{fit-first}
 use Rattle.codice.specs.Integer.{isEmpty, past, trimEnd, isSign, unsigned, someDigits, integerText}
 use Rattle.codice.specs.Codice.{Group, part, groupsOf16, groupsOf11, places, failing, codiceOf, codiceFault}
 use Rattle.codice.specs.Meaning.{passes, isCodice}
-use Rattle.codice.proofs.Laws.{and-right}
 use Rattle.codice.proofs.Trim.{digit-dark, digit-unsigned, some-first, integer-read}
 
 -- no group fails exactly when each passes
@@ -34,7 +34,7 @@ fit-passes (g ∷ gs) cs ats =
 -- 11 points are one group
 whole : (cs : List ℕ) → length cs ≡ 11 → passes groupsOf11 cs ≡ integerText cs
 unfolding passes
-whole cs h = let l : length cs ≤ 11 = omega arith in rw (take-all 11 cs l) (and-right (integerText cs))
+whole cs h = let l : length cs ≤ 11 = omega arith in rw (take-all 11 cs l) (bool.and-true (integerText cs))
 
 by-count : (cs ats : List ℕ) (t u : Bool) → eqb (length cs) 11 ≡ u
     → isFit (pick t (failing groupsOf16 cs ats) (pick u (failing groupsOf11 cs ats) Length)) ≡ pick t (passes groupsOf16 cs) (u && integerText cs)

@@ -1,6 +1,6 @@
 -- What a text that fits a named form is, byte by byte. Assumes nothing.
 use mathlib.Core.Path.{_≡_, refl, _∙_, sym, ap}
-use mathlib.Core.Bool.{Bool, true, false, _&&_, _||_}
+use mathlib.Core.Bool.{Bool, true, false, _&&_, _||_, and-false, or-true, or-false}
 use mathlib.Core.List.{List, [], _∷_}
 use Prim.Native.Nat.{ℕ, _≤_}
 use native.Mathlib.Omega.{arith}
@@ -9,7 +9,7 @@ use lib.Dec.{eqb}
 use lib.ListN.{length, getD, drop}
 use Rattle.ascii.specs.Pick.{pick}
 use Rattle.ascii.specs.Class.{within, isDigit, isLetter, isPlain, all}
-use Rattle.ascii.proofs.Tests.{and-true, and-false, not-true, or-true}
+use Rattle.ascii.proofs.Tests.{and-true, not-true}
 use Rattle.ascii.proofs.Class.{below, bounds, all-cons}
 use Rattle.forms.specs.Form.{Form, ofClass, formFrom, faultOf, fits}
 use Rattle.forms.specs.Table.{form, digits, ipa, dkAndEight, danishOf, italianOf, account}
@@ -38,10 +38,6 @@ pub fits-dk : (a b : ℕ) (s : List ℕ) → fits dkAndEight (a ∷ b ∷ s) ≡
 unfolding ofClass pick
 fits-dk a b s = fits-follows dkAndEight (a ∷ b ∷ s) ∙ ap (λ (x : Bool). within 10 10 (length (a ∷ b ∷ s)) && (eqb a 0x44 && (eqb b 0x4b && x))) (all-digit s)
 
-or-false : (a b : Bool) → b ≡ false → a || b ≡ a
-or-false true b e = refl
-or-false false b e = e
-
 -- DK and 8 digits, or 8 digits
 pub danish-either : (s : List ℕ) → fits (danishOf s) s ≡ fits dkAndEight s || fits (digits 8 8) s
 unfolding pick
@@ -54,7 +50,7 @@ danish-either s = go (eqb (length s) 8) refl
         rw w
     go false e =
         let w : fits (digits 8 8) s ≡ false = unfit (digits 8 8) s (not-true _ (λ h. let b = bounds 8 8 (length s) h in eqb-false (length s) 8 e (omega arith))) in
-        sym (or-false (fits dkAndEight s) (fits (digits 8 8) s) w)
+        rw w (sym (or-false (fits dkAndEight s)))
 
 -- ---- 47
 
@@ -73,7 +69,9 @@ unfolding pick ofClass
 first-byte b s true e =
     let w : fits upper (b ∷ s) ≡ false = unlike 0x49 _ 0x23 13 13 b s (ap (λ (x : ℕ). eqb x 0x49) (eqb-true b 0x69 e)) in
     rw w
-first-byte b s false e = sym (or-false (fits upper (b ∷ s)) (fits lower (b ∷ s)) (unlike 0x69 _ 0x23 13 13 b s e))
+first-byte b s false e =
+    let w : fits lower (b ∷ s) ≡ false = unlike 0x69 _ 0x23 13 13 b s e in
+    rw w (sym (or-false (fits upper (b ∷ s))))
 
 -- IT and 11 digits, or it and 11 digits
 pub italian-either : (s : List ℕ) → fits (italianOf s) s ≡ fits upper s || fits lower s

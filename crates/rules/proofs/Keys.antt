@@ -1,6 +1,6 @@
 -- Comparing four bytes is comparing the number that they make. Assumes nothing.
 use mathlib.Core.Path.{_≡_, refl, ap, _∙_}
-use mathlib.Core.Bool.{Bool, true, false, not, _&&_}
+use mathlib.Core.Bool.{Bool, true, false, not, _&&_, and-false}
 use mathlib.Core.List.{List, [], _∷_}
 use Prim.Native.Nat.{ℕ, suc, _<_}
 use native.Mathlib.Omega.{arith}
@@ -10,7 +10,7 @@ use lib.ListN.{length, getD}
 use Rattle.ascii.specs.Pick.{pick}
 use Rattle.ascii.specs.Class.{among}
 use Rattle.ascii.specs.Written.{bytes}
-use Rattle.ascii.proofs.Tests.{and-true, true-and, and-false, both-ways, not-true, false-true}
+use Rattle.ascii.proofs.Tests.{and-true, true-and, both-ways, not-true, false-true}
 use Rattle.rules.specs.declared.rule.Rule.{Rule}
 use Rattle.rules.specs.declared.rule.Rule.the-variants.{R46}
 use Rattle.rules.specs.declared.rule.Scheme.{Scheme}

@@ -1,6 +1,6 @@
 -- What a rule finds, lets through and answers, by the tests of the code. Assumes nothing.
 use mathlib.Core.Path.{_≡_, refl, sym, ap, _∙_}
-use mathlib.Core.Bool.{Bool, true, false, not, _&&_, _||_}
+use mathlib.Core.Bool.{Bool, true, false, not, _&&_, _||_, and-true}
 use mathlib.Core.List.{List, [], _∷_}
 use Prim.Native.Nat.{ℕ, _≤_, _<_}
 use native.Mathlib.Omega.{arith}
@@ -23,10 +23,6 @@ use Rattle.rules.specs.Check.{textFor, answerTo, answerBy}
 
 -- ---- the first two bytes
 
-and-true-right : (t : Bool) → (t && true) ≡ t
-and-true-right true = refl
-and-true-right false = refl
-
 pub starts-short : (s : List ℕ) (a b : ℕ) → length s < 2 → false ≡ startsWith (a ∷ b ∷ []) s
 starts-short [] a b h = refl
 starts-short (x ∷ []) a b h = either-false (eqb x a)
@@ -39,7 +35,7 @@ starts-short (x ∷ y ∷ s) a b h = absurd (omega arith)
 starts-at : (s : List ℕ) (a b : ℕ) → 2 ≤ length s → startsWith (a ∷ b ∷ []) s ≡ eqb (getD s 0 0) a && eqb (getD s 1 0) b
 starts-at [] a b h = absurd (omega arith)
 starts-at (x ∷ []) a b h = absurd (omega arith)
-starts-at (x ∷ y ∷ s) a b h = ap (λ (t : Bool). eqb x a && t) (and-true-right (eqb y b))
+starts-at (x ∷ y ∷ s) a b h = ap (λ (t : Bool). eqb x a && t) (and-true (eqb y b))
 
 pub starts-first : (s : List ℕ) (a b : ℕ) → 2 ≤ length s → getD s 0 0 ≡ a → eqb (getD s 1 0) b ≡ startsWith (a ∷ b ∷ []) s
 starts-first s a b h e = sym (starts-at s a b h ∙ rw (eq-eqb _ _ e))

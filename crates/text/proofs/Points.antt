@@ -86,8 +86,12 @@ unread-first : (p : Piece) (c : Content) → unread c ≡ unread (withFirst p c)
 unread-first p refused = refl
 unread-first p (content ps) = refl
 
--- bytes that are code points by themselves can be read
-pub unread-ascii : (o : ℕ) (s : List ℕ) → all (λ b. leb b 0x7f) s ≡ true → unread (contentFrom o 0 s) ≡ NoReason
+-- a byte that is a code point by itself
+abbrev pub single : ℕ → Bool
+single b = leb b 0x7f
+
+-- such bytes can be read
+pub unread-ascii : (o : ℕ) (s : List ℕ) → all single s ≡ true → unread (contentFrom o 0 s) ≡ NoReason
 unfolding contentFrom
 unread-ascii o [] e = refl
 unread-ascii o (a ∷ l) e =

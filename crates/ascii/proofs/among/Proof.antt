@@ -1,6 +1,6 @@
 -- `ascii::among` meets its contract: c was found before i, or is among the entries from i on, exactly when it is among all. Assumes nothing.
 use mathlib.Core.Path.{_≡_, refl, sym, _∙_}
-use mathlib.Core.Bool.{Bool, true, false, _||_}
+use mathlib.Core.Bool.{Bool, _||_, or-assoc, or-false}
 use mathlib.Core.List.{List}
 use Prim.Native.Nat.{ℕ, _+_, _-_, _≤_, _<_}
 use native.Mathlib.Numerals.{add-one}
@@ -12,14 +12,6 @@ use lib.Seq.{drop-cons}
 use Rattle.ascii.specs.Class.{among}
 use Rattle.ascii.proofs.among.Statement.{statement}
 use Rattle.ascii.proofs.among.Tie as tie
-
-or-assoc : (t u v : Bool) → ((t || u) || v) ≡ (t || (u || v))
-or-assoc true u v = refl
-or-assoc false u v = refl
-
-or-false : (t : Bool) → (t || false) ≡ t
-or-false true = refl
-or-false false = refl
 
 module _ (c : ℕ) (l : List ℕ) (found : Bool) (i : ℕ) (e : (found || among c (drop i l)) ≡ among c l) where
   step : i < length l → among c (drop i l) ≡ (eqb (getD l i 0) c || among c (drop (i + 1) l))

@@ -1,6 +1,6 @@
 -- `text::read::is_ascii` meets its contract: the bytes before i passed, and those from i on pass, exactly when all do.
 use mathlib.Core.Path.{_≡_, refl, sym, _∙_}
-use mathlib.Core.Bool.{Bool, true, false, _&&_}
+use mathlib.Core.Bool.{Bool, _&&_, and-assoc, and-true}
 use mathlib.Core.List.{List}
 use Prim.Native.Nat.{ℕ, _+_, _-_, _≤_, _<_}
 use native.Mathlib.Numerals.{add-one}
@@ -9,34 +9,24 @@ use lib.Dec.{leb}
 use lib.ListN.{length, getD, drop, drop-of-length-le}
 use lib.Seq.{drop-cons}
 use Rattle.ascii.specs.Class.{all}
+use Rattle.text.proofs.Points.{single}
 use Rattle.text.proofs.read.is_ascii.Statement.{statement}
 use Rattle.text.proofs.read.is_ascii.Tie as tie
 
-abbrev plain : ℕ → Bool
-plain b = leb b 0x7f
-
-and-assoc : (t u v : Bool) → ((t && u) && v) ≡ (t && (u && v))
-and-assoc true u v = refl
-and-assoc false u v = refl
-
-and-last : (t : Bool) → (t && true) ≡ t
-and-last true = refl
-and-last false = refl
-
-module _ (s : List ℕ) (ascii : Bool) (i : ℕ) (e : (ascii && all plain (drop i s)) ≡ all plain s) where
-  step : i < length s → all plain (drop i s) ≡ (leb (getD s i 0) 0x7f && all plain (drop (i + 1) s))
+module _ (s : List ℕ) (ascii : Bool) (i : ℕ) (e : (ascii && all single (drop i s)) ≡ all single s) where
+  step : i < length s → all single (drop i s) ≡ (leb (getD s i 0) 0x7f && all single (drop (i + 1) s))
   unfolding all
   step h = rw (add-one, drop-cons s i 0)
 
-  next : i < length s → ((ascii && leb (getD s i 0) 0x7f) && all plain (drop (i + 1) s)) ≡ all plain s
+  next : i < length s → ((ascii && leb (getD s i 0) 0x7f) && all single (drop (i + 1) s)) ≡ all single s
   next h = and-assoc ascii _ _ ∙ (rw (step h) at e)
 
-  done : length s ≤ i → ascii ≡ all plain s
+  done : length s ≤ i → ascii ≡ all single s
   unfolding all
-  done h = sym (and-last ascii) ∙ (rw (drop-of-length-le s h) at e)
+  done h = sym (and-true ascii) ∙ (rw (drop-of-length-le s h) at e)
 
 abbrev Inv-loop : tie.InvT-loop
-Inv-loop s ascii₀ i₀ ascii i = (i ≤ length s) × ((ascii && all plain (drop i s)) ≡ all plain s)
+Inv-loop s ascii₀ i₀ ascii i = (i ≤ length s) × ((ascii && all single (drop i s)) ≡ all single s)
 
 abbrev μ-loop : tie.MeasureT-loop
 μ-loop s ascii₀ i₀ ascii i = length s - i

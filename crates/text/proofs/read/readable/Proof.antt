@@ -7,7 +7,6 @@ use native.Mathlib.Omega.{arith}
 use borrow.Author.Needs.{needs}
 use borrow.Author.Tests.{le-leb, lt-leb}
 use denote.Ref.{now}
-use lib.Dec.{leb}
 use lib.ListN.{length, drop}
 use Rattle.text.specs.declared.utf8.Step.the-variants.{Point}
 use Rattle.answer.specs.declared.reason.Reason.the-variants.{Long, NoReason}
@@ -15,7 +14,7 @@ use Rattle.ascii.specs.Class.{all}
 use Rattle.text.specs.Utf8.{stepOf}
 use Rattle.text.specs.Content.{contentOf}
 use Rattle.text.specs.Answer.{unread, readableOf}
-use Rattle.text.proofs.Points.{rest, point-fits, at-refused, at-last, unread-on, unread-ascii}
+use Rattle.text.proofs.Points.{rest, point-fits, at-refused, at-last, unread-on, single, unread-ascii}
 use Rattle.text.proofs.read.readable.Statement.{statement}
 use Rattle.text.proofs.read.readable.Tie as tie
 
@@ -27,7 +26,7 @@ short : (s : List ℕ) → length s ≤ 1024 → unread (rest s 0) ≡ readableO
 unfolding readableOf contentOf
 short s h = rw (le-leb (length s) 1024 h)
 
-ascii : (s : List ℕ) → length s ≤ 1024 → all (λ b. leb b 0x7f) s ≡ true → NoReason ≡ readableOf s
+ascii : (s : List ℕ) → length s ≤ 1024 → all single s ≡ true → NoReason ≡ readableOf s
 ascii s h e = sym (unread-ascii 0 s e) ∙ short s h
 
 abbrev Inv-loop : tie.InvT-loop
