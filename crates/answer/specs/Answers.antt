@@ -1,8 +1,10 @@
 -- The four kinds of answer. Verdicts 0, 1 and 3 have reason 0; verdict 0 has rule and severity 0; a reason comes with verdict 2.
-use mathlib.Core.Bool.{Bool, cond}
+use mathlib.Core.Bool.{Bool}
+use mathlib.Core.List.{List, [], _∷_}
 use Prim.Native.Nat.{ℕ}
 use lib.Dec.{eqb}
-use Rattle.answer.specs.Numbers.{reasonNumber}
+use Rattle.ascii.specs.Pick.{pick}
+use Rattle.answer.specs.Numbers.{verdictNumber, severityNumber, reasonNumber}
 use Rattle.answer.specs.declared.record.Answer.{Answer}
 use Rattle.answer.specs.declared.verdict.Verdict.the-variants.{NoRule, Accepted, Refused, Unread}
 use Rattle.answer.specs.declared.severity.Severity.{Severity}
@@ -29,8 +31,13 @@ none r = eqb (reasonNumber r) 0
 
 -- of two reasons the first that is given
 unfoldable pub first : Reason → Reason → Reason
-first r s = cond (none r) s r
+first r s = pick (none r) s r
+
+-- an answer's numbers, in the order in which they are written
+unfoldable pub answerNumbers : Answer → List ℕ
+answerNumbers a =
+    verdictNumber (a .verdict) ∷ a .rule ∷ severityNumber (a .severity) ∷ reasonNumber (a .reason) ∷ []
 
 -- accepted where no reason is given, else refused by it
 unfoldable pub judged : ℕ → Severity → Reason → Answer
-judged n s r = cond (none r) (accepted n s) (refused n s r)
+judged n s r = pick (none r) (accepted n s) (refused n s r)

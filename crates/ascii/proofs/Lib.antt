@@ -2,3 +2,4 @@
 pub mod Tests
 pub mod Class
 pub mod Same
+pub mod Area

@@ -84,8 +84,12 @@ right-luhn : (u : List ℕ) (c : ℕ) → c < 10 → right luhn (u ++ oneDigit c
 right-luhn u c l =
     check-right true (luhn .weights) 10 (omega arith) refl (λ d g. let e : 1 * d / 10 + 1 * d % 10 ≡ d = omega arith in e) u c l l
 
+-- a number that a rule accepts
+abbrev good : (List ℕ → Finding) → List ℕ → Bool
+good rule s = isGood (rule s)
+
 -- a rule that a check digit c decides by being x
-module _ (rule : List ℕ → Finding) (f : Figure) (a b : ℕ) (links : Links rule f a b) (u : List ℕ) (x : ℕ) (small : x < 10)
+module _ (rule : List ℕ → Finding) (f : Figure) (left a b : ℕ) (links : Links rule f left a b) (u : List ℕ) (x : ℕ) (small : x < 10)
     (decides : (c : ℕ) → c < 10 → isGood (rule (u ++ oneDigit c)) ≡ eqb c x) where
   one-alone : (y : List ℕ) → length y ≡ 1 → 0 ≤ number y → isGood (rule (u ++ y)) ≡ true → y ≡ oneDigit x
   one-alone [] e n h = absurd (omega arith)
@@ -96,14 +100,14 @@ module _ (rule : List ℕ → Finding) (f : Figure) (a b : ℕ) (links : Links r
       let g = eqb-true (d - 48) x (sym (decides (d - 48) (omega arith)) ∙ ap (λ z. isGood (rule (u ++ z ∷ []))) (sym k) ∙ h) in
       ap (λ z. z ∷ []) (let w : d ≡ x + 48 = omega arith in w)
 
-  one-completes : Completes rule (λ y. u ++ y) 0 (oneDigit x)
+  one-completes : Completes (good rule) (λ y. u ++ y) 0 (oneDigit x)
   one-completes = record { accepted = decides x small ∙ eq-eqb x x refl; alone = one-alone }
 
 -- 0088
-pub gln-completes : (body : List ℕ) → all isDigit body ≡ true → length body < 1024 → Completes gln (λ y. body ++ y) 0 (glnCheck body)
+pub gln-completes : (body : List ℕ) → all isDigit body ≡ true → length body < 1024 → Completes (good gln) (λ y. body ++ y) 0 (glnCheck body)
 unfolding gln
 gln-completes body h n =
-    one-completes gln figure40 1 1024 gln-links body (lacks figure40 body) (omega arith)
+    one-completes gln figure40 0 1 1024 gln-links body (lacks figure40 body) (omega arith)
     (λ c l.
     let d = with-one body c (length body) l h refl in
     good-by (right figure40 (body ++ oneDigit c))
@@ -111,10 +115,10 @@ gln-completes body h n =
     ∙ right40 body c l)
 
 -- 0007
-pub se-orgnr-completes : (body : List ℕ) → all isDigit body ≡ true → length body ≡ 9 → Completes seOrgnr (λ y. body ++ y) 0 (seOrgnrCheck body)
+pub se-orgnr-completes : (body : List ℕ) → all isDigit body ≡ true → length body ≡ 9 → Completes (good seOrgnr) (λ y. body ++ y) 0 (seOrgnrCheck body)
 unfolding seOrgnr
 se-orgnr-completes body h n =
-    one-completes seOrgnr luhn 10 10 se-orgnr-links body (lacks luhn body) (omega arith)
+    one-completes seOrgnr luhn 0 10 10 se-orgnr-links body (lacks luhn body) (omega arith)
     (λ c l.
     good-by (right luhn (body ++ oneDigit c)) (fit-digits 10 10 (body ++ oneDigit c) (with-one body c 9 l h n))
     ∙ right-luhn body c l)
@@ -160,10 +164,10 @@ module _ (body : List ℕ) (h : all isDigit body ≡ true) (n : length body ≡ 
   reason-none false true e = absurd (let q : _≡_ {A = ℕ} 0 1 = cc in omega arith)
   reason-none false false e = (refl, refl)
 
-  pub mod11-completes : mod11Reason body ≡ NoReason → Completes mod11 (λ y. body ++ y) 0 (mod11Check body)
+  pub mod11-completes : mod11Reason body ≡ NoReason → Completes (good mod11) (λ y. body ++ y) 0 (mod11Check body)
   mod11-completes e =
       let r = reason-none (allZero body) (eqb (lacks figure41 body) 10) e in
-      one-completes mod11 figure41 9 9 mod11-links body (lacks figure41 body) (omega (arith, eqb-false (lacks figure41 body) 10 (r .1)))
+      one-completes mod11 figure41 0 9 9 mod11-links body (lacks figure41 body) (omega (arith, eqb-false (lacks figure41 body) 10 (r .1)))
       (λ c l. good41 c l false (r .0))
 
   -- reasons 5 and 6 stand exactly when no figure completes the body
@@ -222,7 +226,7 @@ module _ (body : List ℕ) (h : all isDigit body ≡ true) (n : length body ≡ 
       ∙ ap (λ x. eqb (number x) (97 - number (take 8 (body ++ y)) % 97)) (drop-at body y 8 n)
       ∙ ap (λ x. eqb (number y) (97 - number x % 97)) (take-at body y 8 n)
 
-  pub mod97-completes : Completes mod97 (λ y. body ++ y) 0 (mod97Check body)
+  pub mod97-completes : Completes (good mod97) (λ y. body ++ y) 0 (mod97Check body)
   mod97-completes =
       let x = 97 - number body % 97 in
       record {
@@ -267,7 +271,7 @@ module _ (body : List ℕ) (h : all isDigit body ≡ true) (n : length body ≡ 
       (λ e. i .0 (ap (λ x. x % 89) (sym (front y k)) ∙ leaves-ten (totalBy figure50 (y ++ body)) e))
       (λ e. ten-leaves (totalBy figure50 (y ++ body)) (ap (λ x. x % 89) (front y k) ∙ i .1 e))
 
-  pub abn-completes : Completes abn (λ y. y ++ body) 11 (abnCheck body)
+  pub abn-completes : Completes (good abn) (λ y. y ++ body) 11 (abnCheck body)
   abn-completes =
       let x = 99 - totalBy figure50 body % 89 in
       let e = number-pair x (omega arith) in

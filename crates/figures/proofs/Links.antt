@@ -13,34 +13,38 @@ use Rattle.forms.specs.Form.{faultOf}
 use Rattle.forms.specs.Table.{digits}
 use Rattle.forms.proofs.OfDigits.{Digits, digits-fit}
 use Rattle.figures.specs.Total.{total, number}
-use Rattle.figures.specs.Figures.{Figure, adds, weightAt, totalBy, right, figure40, figure41, figure43, luhn, figure50}
+use Rattle.figures.specs.Figures.{Figure, adds, weightAt, totalBy, right, figure, figure40, figure41, luhn, figure50}
 use Rattle.figures.specs.Findings.{isGood}
 use Rattle.figures.specs.Rules.{gln, mod11, mod97, seOrgnr, abn, abnTotal, allZero}
 use Rattle.figures.specs.declared.finding.Finding.{Finding}
 use Rattle.figures.proofs.Digits.{same-total}
 use Rattle.figures.proofs.Judging.{good-parts, good-zero}
 
--- a to b digits, whose total leaves what the figure says
-pub record Right (f : Figure) (a b : ℕ) (s : List ℕ) : Type 0 where
+-- a to b digits, whose total leaves `left` by the figure's modulus
+pub record Right (f : Figure) (left a b : ℕ) (s : List ℕ) : Type 0 where
   pub form : Digits a b s
-  pub leaves : totalBy f s % f .modulus ≡ f .left
+  pub leaves : totalBy f s % f .modulus ≡ left
 
-abbrev pub Links : (List ℕ → Finding) → Figure → ℕ → ℕ → Type 0
-Links rule f a b = (s : List ℕ) → isGood (rule s) ≡ true → Right f a b s
+abbrev pub Links : (List ℕ → Finding) → Figure → ℕ → ℕ → ℕ → Type 0
+Links rule f left a b = (s : List ℕ) → isGood (rule s) ≡ true → Right f left a b s
 
-pub gln-links : Links gln figure40 1 1024
+-- 43: of the numbers that it accepts, the first eight and the last two add up to a multiple of 97
+abbrev pub figure43 : Figure
+figure43 = figure false (1 ∷ 10 ∷ 1 ∷ 10 ∷ 100 ∷ 1000 ∷ 10000 ∷ 100000 ∷ 1000000 ∷ 10000000 ∷ []) 97
+
+pub gln-links : Links gln figure40 0 1 1024
 unfolding gln
 gln-links s h =
     let p = good-parts (faultOf (digits 1 1024) s) (right figure40 s) h in
     record { form = digits-fit 1 1024 s (p .0); leaves = eqb-true _ _ (p .1) }
 
-pub mod11-links : Links mod11 figure41 9 9
+pub mod11-links : Links mod11 figure41 0 9 9
 unfolding mod11
 mod11-links s h =
     let p = good-zero (faultOf (digits 9 9) s) (allZero s) (right figure41 s) h in
     record { form = digits-fit 9 9 s (p .0); leaves = eqb-true _ _ (p .2) }
 
-pub se-orgnr-links : Links seOrgnr luhn 10 10
+pub se-orgnr-links : Links seOrgnr luhn 0 10 10
 unfolding seOrgnr
 se-orgnr-links s h =
     let p = good-parts (faultOf (digits 10 10) s) (right luhn s) h in
@@ -76,7 +80,7 @@ two-numbers s n =
     (λ k d l. rw ld (powers-from 2 8 refl k d (omega (arith, length-take 8 s))))
     (λ k d l. rw (z k) at (powers-from 0 2 refl k d (omega arith)))
 
-pub mod97-links : Links mod97 figure43 10 10
+pub mod97-links : Links mod97 figure43 0 10 10
 unfolding mod97
 mod97-links s h =
     let p = good-parts (faultOf (digits 10 10) s) (eqb (number (drop 8 s)) (97 - number (take 8 s) % 97)) h in
@@ -109,7 +113,7 @@ leaves-ten n h = go (ltb n 10) refl h
 pub ten-leaves : (n : ℕ) → n % 89 ≡ 10 → natAbs (subℕ n 10) % 89 ≡ 0
 ten-leaves n h = rw (le-ltb n 10 (omega arith)) (let e : (n - 10) % 89 ≡ 0 = omega arith in e)
 
-pub abn-links : Links abn figure50 11 11
+pub abn-links : Links abn figure50 10 11 11
 unfolding abn
 abn-links s h =
     let p = good-parts (faultOf (digits 11 11) s) (eqb (natAbs (abnTotal s) % 89) 0) h in

@@ -6,23 +6,21 @@ use Prim.Native.Nat.{ℕ, _+_, _<_}
 use lib.Dec.{eqb}
 use lib.ListN.{length, getD, set}
 use Rattle.figures.specs.Total.{digitAt}
-use Rattle.figures.specs.Findings.{isGood}
-use Rattle.figures.specs.declared.finding.Finding.{Finding}
 
 -- the digits at i and i + 1 exchanged (the one at i replaced by v is `set s i v`)
 abbrev pub exchanged : List ℕ → ℕ → List ℕ
 exchanged s i = set (set s i (getD s (i + 1) 0)) (i + 1) (getD s i 0)
 
 -- an accepted number with one digit replaced by another, or by any other byte, is refused
-abbrev pub RefusesReplaced : (List ℕ → Finding) → Type 0
-RefusesReplaced rule =
-    (s : List ℕ) (i v : ℕ) → isGood (rule s) ≡ true → i < length s → (getD s i 0 ≡ v → ⊥) → isGood (rule (set s i v)) ≡ false
+abbrev pub RefusesReplaced : (List ℕ → Bool) → Type 0
+RefusesReplaced accepts =
+    (s : List ℕ) (i v : ℕ) → accepts s ≡ true → i < length s → (getD s i 0 ≡ v → ⊥) → accepts (set s i v) ≡ false
 
 -- an accepted number with two unequal neighbours exchanged is accepted exactly where `stays` holds of the two digits
-abbrev pub AcceptsExchanged : (List ℕ → Finding) → (ℕ → ℕ → Bool) → Type 0
-AcceptsExchanged rule stays =
-    (s : List ℕ) (i : ℕ) → isGood (rule s) ≡ true → i + 1 < length s → (getD s i 0 ≡ getD s (i + 1) 0 → ⊥)
-    → isGood (rule (exchanged s i)) ≡ stays (digitAt s i) (digitAt s (i + 1))
+abbrev pub AcceptsExchanged : (List ℕ → Bool) → (ℕ → ℕ → Bool) → Type 0
+AcceptsExchanged accepts stays =
+    (s : List ℕ) (i : ℕ) → accepts s ≡ true → i + 1 < length s → (getD s i 0 ≡ getD s (i + 1) 0 → ⊥)
+    → accepts (exchanged s i) ≡ stays (digitAt s i) (digitAt s (i + 1))
 
 abbrev pub never : ℕ → ℕ → Bool
 never a b = false

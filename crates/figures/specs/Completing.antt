@@ -1,6 +1,6 @@
 -- The figure that completes a body: a check digit or a check pair, as text.
 use mathlib.Core.Path.{_≡_}
-use mathlib.Core.Bool.{true}
+use mathlib.Core.Bool.{Bool, true}
 use mathlib.Core.List.{List, [], _∷_, _++_}
 use Prim.Native.Nat.{ℕ, _+_, _-_, _/_, _%_, _≤_}
 use lib.Dec.{eqb}
@@ -10,9 +10,7 @@ use Rattle.answer.specs.declared.reason.Reason.{Reason}
 use Rattle.answer.specs.declared.reason.Reason.the-variants.{NoReason, Zero, NoFigure}
 use Rattle.figures.specs.Total.{number}
 use Rattle.figures.specs.Figures.{Figure, totalBy, figure40, figure41, luhn, figure50}
-use Rattle.figures.specs.Findings.{isGood}
 use Rattle.figures.specs.Rules.{allZero}
-use Rattle.figures.specs.declared.finding.Finding.{Finding}
 
 -- a number below 10, and one below 100, as text
 abbrev pub oneDigit : ℕ → List ℕ
@@ -49,7 +47,7 @@ seOrgnrCheck body = oneDigit (lacks luhn body)
 abbrev pub abnCheck : List ℕ → List ℕ
 abnCheck body = twoDigits (99 - totalBy figure50 body % 89)
 
--- `put` makes a number of the body and a figure: with x it is accepted, and with no other text of x's length that writes `least` or more
-pub record Completes (rule : List ℕ → Finding) (put : List ℕ → List ℕ) (least : ℕ) (x : List ℕ) : Type 0 where
-  pub accepted : isGood (rule (put x)) ≡ true
-  pub alone : (y : List ℕ) → length y ≡ length x → least ≤ number y → isGood (rule (put y)) ≡ true → y ≡ x
+-- `numberWith` makes a number of the body and a figure: with x it is accepted, and with no other text of x's length that writes `least` or more
+pub record Completes (accepts : List ℕ → Bool) (numberWith : List ℕ → List ℕ) (least : ℕ) (x : List ℕ) : Type 0 where
+  pub accepted : accepts (numberWith x) ≡ true
+  pub alone : (y : List ℕ) → length y ≡ length x → least ≤ number y → accepts (numberWith y) ≡ true → y ≡ x

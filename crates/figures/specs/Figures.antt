@@ -1,4 +1,4 @@
--- A check figure is data: weights, a modulus and what the weighted total leaves by it.
+-- A check figure is data: weights, and a modulus of which the weighted total is a multiple.
 use mathlib.Core.Bool.{Bool, true, false}
 use mathlib.Core.List.{List, [], _∷_}
 use Prim.Native.Nat.{ℕ, _+_, _*_, _/_, _%_}
@@ -12,10 +12,9 @@ pub record Figure : Type 0 where
   -- from the right, over and over
   pub weights : List ℕ
   pub modulus : ℕ
-  pub left : ℕ
 
-abbrev pub figure : Bool → List ℕ → ℕ → ℕ → Figure
-figure fold weights modulus left = record { fold = fold; weights = weights; modulus = modulus; left = left }
+abbrev pub figure : Bool → List ℕ → ℕ → Figure
+figure fold weights modulus = record { fold = fold; weights = weights; modulus = modulus }
 
 -- the weight of a digit with k digits to its right
 abbrev pub weightAt : List ℕ → ℕ → ℕ
@@ -34,24 +33,20 @@ abbrev pub totalBy : Figure → List ℕ → ℕ
 totalBy f s = total (adds (f .fold) (f .weights)) s
 
 abbrev pub right : Figure → List ℕ → Bool
-right f s = eqb (totalBy f s % f .modulus) (f .left)
+right f s = eqb (totalBy f s % f .modulus) 0
 
 -- 40: weights 3, 1, 3, 1 .. leftwards from the digit before the check, the check itself 1; a multiple of 10
 abbrev pub figure40 : Figure
-figure40 = figure false (1 ∷ 3 ∷ []) 10 0
+figure40 = figure false (1 ∷ 3 ∷ []) 10
 
 -- 41: check 1, then leftwards 2, 3, 4, 5, 6, 7, 2, 3; a multiple of 11
 abbrev pub figure41 : Figure
-figure41 = figure false (1 ∷ 2 ∷ 3 ∷ 4 ∷ 5 ∷ 6 ∷ 7 ∷ 2 ∷ 3 ∷ []) 11 0
-
--- 43: of the numbers that it accepts, the first eight and the last two add up to a multiple of 97
-abbrev pub figure43 : Figure
-figure43 = figure false (1 ∷ 10 ∷ 1 ∷ 10 ∷ 100 ∷ 1000 ∷ 10000 ∷ 100000 ∷ 1000000 ∷ 10000000 ∷ []) 97 0
+figure41 = figure false (1 ∷ 2 ∷ 3 ∷ 4 ∷ 5 ∷ 6 ∷ 7 ∷ 2 ∷ 3 ∷ []) 11
 
 -- 47, 49: every second digit doubled, with the digits of the double added; a multiple of 10 (Luhn, ISO/IEC 7812-1)
 abbrev pub luhn : Figure
-luhn = figure true (1 ∷ 2 ∷ []) 10 0
+luhn = figure true (1 ∷ 2 ∷ []) 10
 
--- 50, before the first digit is reduced: weights 10, 1, 3 .. 19 from the left; the total leaves 10 by 89
+-- 50: weights 10, 1, 3 .. 19 from the left; of the total with the first digit reduced by one, a multiple of 89
 abbrev pub figure50 : Figure
-figure50 = figure false (19 ∷ 17 ∷ 15 ∷ 13 ∷ 11 ∷ 9 ∷ 7 ∷ 5 ∷ 3 ∷ 1 ∷ 10 ∷ []) 89 10
+figure50 = figure false (19 ∷ 17 ∷ 15 ∷ 13 ∷ 11 ∷ 9 ∷ 7 ∷ 5 ∷ 3 ∷ 1 ∷ 10 ∷ []) 89

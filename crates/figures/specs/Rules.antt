@@ -8,7 +8,7 @@ use lib.IntN.{ℤ, pos, natAbs, _+ℤ_, _-ℤ_, _*ℤ_}
 use lib.ListN.{take, drop}
 use Rattle.ascii.specs.Class.{all}
 use Rattle.forms.specs.Form.{faultOf}
-use Rattle.forms.specs.Table.{digits, someDigits, italianOf}
+use Rattle.forms.specs.Table.{someDigits, norwegian, belgian, italianOf, swedish, australian}
 use Rattle.figures.specs.Total.{digitAt, number}
 use Rattle.figures.specs.Figures.{totalBy, right, figure40, figure41, luhn, figure50}
 use Rattle.figures.specs.Findings.{judged, judgedZero}
@@ -23,11 +23,11 @@ allZero s = all (eqb (code "0")) s
 
 -- 41 0192: 9 digits; all zeros is a reason of its own
 unfoldable pub mod11 : List ℕ → Finding
-mod11 s = judgedZero (faultOf (digits 9 9) s) (allZero s) (right figure41 s)
+mod11 s = judgedZero (faultOf norwegian s) (allZero s) (right figure41 s)
 
 -- 43 0208: 10 digits; the last two equal 97 minus (first eight mod 97), so that they run from 01 to 97
 unfoldable pub mod97 : List ℕ → Finding
-mod97 s = judged (faultOf (digits 10 10) s) (eqb (number (drop 8 s)) (97 - number (take 8 s) % 97))
+mod97 s = judged (faultOf belgian s) (eqb (number (drop 8 s)) (97 - number (take 8 s) % 97))
 
 -- 47 0211, where it is not let through: IT or it, and 11 digits
 unfoldable pub partitaIva : List ℕ → Finding
@@ -35,7 +35,7 @@ partitaIva s = judged (faultOf (italianOf s) s) (right luhn (drop 2 s))
 
 -- 49 0007: 10 digits
 unfoldable pub seOrgnr : List ℕ → Finding
-seOrgnr s = judged (faultOf (digits 10 10) s) (right luhn s)
+seOrgnr s = judged (faultOf swedish s) (right luhn s)
 
 -- 50 0151: the first digit is reduced by one before weighting, so that a leading zero contributes -10
 abbrev pub abnTotal : List ℕ → ℤ
@@ -43,4 +43,4 @@ abnTotal s = pos 10 *ℤ (pos (digitAt s 0) -ℤ pos 1) +ℤ pos (totalBy figure
 
 -- 11 digits; the total a multiple of 89
 unfoldable pub abn : List ℕ → Finding
-abn s = judged (faultOf (digits 11 11) s) (eqb (natAbs (abnTotal s) % 89) 0)
+abn s = judged (faultOf australian s) (eqb (natAbs (abnTotal s) % 89) 0)

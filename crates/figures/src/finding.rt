@@ -1,45 +1,50 @@
-// What a check of form and figure finds.
+// What is found in a content.
 ghost use mathlib.Core.Path.{_≡_};
-ghost use Rattle.forms.specs.Form.{isFit};
 ghost use Rattle.forms.specs.declared.form.Fault.the-variants.{Fits};
-ghost use Rattle.figures.specs.Findings.{judged, reasonOf};
+ghost use Rattle.figures.specs.Findings.{judged, formOnly, reasonOf};
 use answer::Reason;
 use forms::Fault;
 
 pub enum Finding {
     Good,
+    // the rule lets the text through unread
+    Through,
     // nothing but zeros, where the rule refuses that by a reason of its own
     Zero,
     // the form is met and the figure is not right
     Wrong,
     Unfit(Fault),
+    // LONG or UTF8
+    Unreadable(Reason),
 }
 
-// Document 01's reason for a finding.
+// The reason by which a finding is refused.
 pub fn reason(f: Finding) -> Reason
     ensures { λ r. ⌜ r ≡ reasonOf f ⌝ }
 {
     match f {
         Finding::Good => Reason::NoReason,
+        Finding::Through => Reason::NoReason,
         Finding::Zero => Reason::Zero,
         Finding::Wrong => Reason::Check,
         Finding::Unfit(_) => Reason::Form,
+        Finding::Unreadable(why) => why,
     }
 }
 
-// Whether a text fits its form.
-pub(crate) fn is_fit(f: Fault) -> bool
-    ensures { λ r. ⌜ r ≡ isFit f ⌝ }
+// A form with no check figure.
+pub fn form_only(fault: Fault) -> Finding
+    ensures { λ r. ⌜ r ≡ formOnly fault ⌝ }
 {
-    match f {
-        Fault::Fits => true,
-        Fault::Length => false,
-        Fault::At(_) => false,
+    match fault {
+        Fault::Fits => Finding::Good,
+        Fault::Length => Finding::Unfit(Fault::Length),
+        Fault::At(k) => Finding::Unfit(Fault::At(k)),
     }
 }
 
 // The finding where the form is met.
-pub(crate) fn decided(figure: bool) -> Finding
+pub fn decided(figure: bool) -> Finding
     ensures { λ r. ⌜ r ≡ judged Fits figure ⌝ }
 {
     if figure {

@@ -4,6 +4,8 @@ mod rules;
 mod total;
 
 pub use finding::Finding;
+pub use finding::decided;
+pub use finding::form_only;
 pub use finding::reason;
 pub use rules::abn;
 pub use rules::gln;

@@ -3,11 +3,15 @@ ghost use mathlib.Core.Path.{_≡_};
 ghost use Rattle.figures.specs.Rules.{gln, mod11, mod97, partitaIva, seOrgnr, abn};
 use super::finding::Finding;
 use super::finding::decided;
-use super::finding::is_fit;
 use super::total::abn_total;
 use super::total::alternating;
 use super::total::weighted;
+use forms::AUSTRALIAN;
+use forms::BELGIAN;
+use forms::NORWEGIAN;
+use forms::SWEDISH;
 use forms::all_digits;
+use forms::is_fit;
 use forms::italian;
 use forms::n_digits;
 
@@ -41,7 +45,7 @@ pub fn gln(s: &[u8]) -> Finding
 pub fn mod11(s: &[u8]) -> Finding
     ensures { λ r. ⌜ r ≡ mod11 (now (s .entry)) ⌝ }
 {
-    let fault = n_digits(s, 9);
+    let fault = n_digits(s, NORWEGIAN);
     if is_fit(fault) {
         let weights = MOD11;
         let sum = weighted(s, &weights);
@@ -56,7 +60,7 @@ pub fn mod11(s: &[u8]) -> Finding
 pub fn mod97_0208(s: &[u8]) -> Finding
     ensures { λ r. ⌜ r ≡ mod97 (now (s .entry)) ⌝ }
 {
-    let fault = n_digits(s, 10);
+    let fault = n_digits(s, BELGIAN);
     if is_fit(fault) {
         let powers = POWERS;
         let body = weighted(&s[0..8], &powers);
@@ -80,7 +84,7 @@ pub fn partita_iva(s: &[u8]) -> Finding
 pub fn se_orgnr(s: &[u8]) -> Finding
     ensures { λ r. ⌜ r ≡ seOrgnr (now (s .entry)) ⌝ }
 {
-    let fault = n_digits(s, 10);
+    let fault = n_digits(s, SWEDISH);
     if is_fit(fault) {
         return decided(alternating(s, 1, 2, true) % 10 == 0);
     }
@@ -90,7 +94,7 @@ pub fn se_orgnr(s: &[u8]) -> Finding
 pub fn abn(s: &[u8]) -> Finding
     ensures { λ r. ⌜ r ≡ abn (now (s .entry)) ⌝ }
 {
-    let fault = n_digits(s, 11);
+    let fault = n_digits(s, AUSTRALIAN);
     if is_fit(fault) {
         return decided(abn_total(s) % 89 == 0);
     }

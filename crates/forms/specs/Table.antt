@@ -1,13 +1,4 @@
--- The forms of document 01. A form that is only digits is `digits least most`, and is named here by its rules:
---
---     41                     digits 9 9          57                     digits 12 12
---     43, 49, 52             digits 10 10        strict GLN             digits 13 13
---     50                     digits 11 11        completing 0088        digits 1 19
---     54                     digits 8 8          completing 0192, 0208  digits 8 8
---     55                     digits 20 20        completing 0007, 0151  digits 9 9
---                                                listing 0088           digits 1 20
---
--- Listing reads 0192, 0208, 0007 and 0151 by the forms of 41, 43, 49 and 50. Rules 45 and 46 read code points and have no form here.
+-- The forms of document 01, by the rules that read them. Rules 45 and 46 read code points and have no form here.
 use mathlib.Core.List.{List}
 use Prim.Native.Nat.{ℕ}
 use Prim.Native.Char.{Char, code}
@@ -28,6 +19,19 @@ digits least most = form "" "#" least most
 -- 40: one or more digits. A text that a rule reads has at most 1,024 bytes.
 abbrev pub someDigits : Form
 someDigits = digits 1 1024
+
+-- 41, 43, 49, 50, and a number of 0192, 0208, 0007, 0151 that is listed
+abbrev pub norwegian : Form
+norwegian = digits 9 9
+
+abbrev pub belgian : Form
+belgian = digits 10 10
+
+abbrev pub swedish : Form
+swedish = digits 10 10
+
+abbrev pub australian : Form
+australian = digits 11 11
 
 -- 44
 abbrev pub ipa : Form

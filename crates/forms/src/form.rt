@@ -1,6 +1,6 @@
 // A form is data, and one function finds the first fault.
 ghost use mathlib.Core.Path.{_≡_};
-ghost use Rattle.forms.specs.Form.{ofClass, classAt, wrong, faultOf, formFrom};
+ghost use Rattle.forms.specs.Form.{ofClass, classAt, wrong, faultOf, formFrom, isFit};
 use ascii::is_digit;
 use ascii::is_letter;
 use ascii::is_plain;
@@ -11,6 +11,17 @@ pub enum Fault {
     Fits,
     Length,
     At(usize),
+}
+
+// Whether a text fits its form.
+pub fn is_fit(f: Fault) -> bool
+    ensures { λ r. ⌜ r ≡ isFit f ⌝ }
+{
+    match f {
+        Fault::Fits => true,
+        Fault::Length => false,
+        Fault::At(_) => false,
+    }
 }
 
 // Whether a byte is of a class: `#` a digit, `&` a letter, `*` a letter or a digit, any other byte itself.

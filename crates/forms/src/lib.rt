@@ -4,6 +4,11 @@ mod table;
 
 pub use form::Fault;
 pub use form::fault_of;
+pub use form::is_fit;
+pub use table::AUSTRALIAN;
+pub use table::BELGIAN;
+pub use table::NORWEGIAN;
+pub use table::SWEDISH;
 pub use table::all_digits;
 pub use table::codice_ipa;
 pub use table::creditor_form;

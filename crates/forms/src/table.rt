@@ -5,6 +5,15 @@ ghost use Rattle.forms.specs.Table as named;
 use super::form::Fault;
 use super::form::fault_of;
 
+// How many digits a number of 0192, 0208, 0007 and 0151 has.
+pub const NORWEGIAN: usize = 9;
+
+pub const BELGIAN: usize = 10;
+
+pub const SWEDISH: usize = 10;
+
+pub const AUSTRALIAN: usize = 11;
+
 // Only digits, least to most of them.
 pub fn digits(text: &[u8], least: usize, most: usize) -> Fault
     ensures { λ r. ⌜ r ≡ faultOf (named.digits least most) (now (text .entry)) ⌝ }

@@ -14,7 +14,7 @@ use Rattle.answer.specs.declared.reason.Reason.{Reason}
 use Rattle.answer.specs.declared.reason.Reason.the-variants.{Long, Utf8}
 use Rattle.text.specs.Content.{Piece, Cell, Content, refused, content, contentFrom, contentOf, cells, cellsOf, bytesOf}
 use Rattle.text.specs.Words.{words, spaceAfter, spaced, closed, normal, stripped}
-use Rattle.text.specs.Answer.{unread, readableOf, padded, kept, refusal, onContent, answer, normalText, strippedText, textOf}
+use Rattle.text.specs.Answer.{whyRefused, readableOf, padded, kept, refusal, onContent, answer, normalText, strippedText, textOf}
 use Rattle.text.specs.Neat.{All, Dark, Neat, codes, itself}
 use Rattle.text.proofs.Rows.{row-1}
 use Rattle.text.proofs.Padded.{length-padded}
@@ -43,7 +43,7 @@ pub record Taken (s : List ℕ) : Type 0 where
 
 -- ---- normalising and stripping refuse what can't be read, by the same reason
 
-reason-on : (c : Content) (f : List Piece → List Cell) → onContent c f .reason ≡ unread c
+reason-on : (c : Content) (f : List Piece → List Cell) → onContent c f .reason ≡ whyRefused c
 unfolding kept refusal
 reason-on refused f = refl
 reason-on (content ps) f = refl

@@ -17,7 +17,7 @@ use Rattle.ascii.proofs.Class.{all-first, all-rest}
 use Rattle.answer.specs.declared.reason.Reason.the-variants.{NoReason}
 use Rattle.text.specs.Utf8.{two, three, four, stepOf}
 use Rattle.text.specs.Content.{Piece, Cell, Content, refused, content, withFirst, contentFrom, cells}
-use Rattle.text.specs.Answer.{unread, onContent}
+use Rattle.text.specs.Answer.{whyRefused, onContent}
 use Rattle.text.proofs.Rows.{row-1}
 
 -- a point takes one byte at least, and no more than there are
@@ -82,7 +82,7 @@ unroll-list o c (suc m) (a ∷ l) e =
     let f : suc m - 1 ≡ m = omega arith in
     rw (← e, f, skip (suc o) m l, suc-add, ← add-suc)
 
-unread-first : (p : Piece) (c : Content) → unread c ≡ unread (withFirst p c)
+unread-first : (p : Piece) (c : Content) → whyRefused c ≡ whyRefused (withFirst p c)
 unread-first p refused = refl
 unread-first p (content ps) = refl
 
@@ -91,7 +91,7 @@ abbrev pub single : ℕ → Bool
 single b = leb b 0x7f
 
 -- such bytes can be read
-pub unread-ascii : (o : ℕ) (s : List ℕ) → all single s ≡ true → unread (contentFrom o 0 s) ≡ NoReason
+pub unread-ascii : (o : ℕ) (s : List ℕ) → all single s ≡ true → whyRefused (contentFrom o 0 s) ≡ NoReason
 unfolding contentFrom
 unread-ascii o [] e = refl
 unread-ascii o (a ∷ l) e =
@@ -109,7 +109,7 @@ module _ (s : List ℕ) (at : ℕ) where
       → rest ≡ withFirst (record { at = at; code = c; bytes = take n (drop at s) }) (contentFrom (at + n) 0 (drop (at + n) s))
   unroll c n e = rw (← drop-drop n at s) (unroll-list at c n (drop at s) e)
 
-  pub unread-on : (c n : ℕ) → Point c n ≡ stepOf (drop at s) → unread (contentFrom (at + n) 0 (drop (at + n) s)) ≡ unread rest
+  pub unread-on : (c n : ℕ) → Point c n ≡ stepOf (drop at s) → whyRefused (contentFrom (at + n) 0 (drop (at + n) s)) ≡ whyRefused rest
   unread-on c n e = rw (unroll c n e) (unread-first _ (contentFrom (at + n) 0 (drop (at + n) s)))
 
   pub at-refused : at < length s → Refused ≡ stepOf (drop at s) → rest ≡ refused

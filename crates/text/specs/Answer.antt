@@ -6,18 +6,20 @@ use lib.Dec.{leb}
 use lib.ListN.{length, take, replicate}
 use Rattle.text.specs.declared.area.Text.{Text}
 use Rattle.text.specs.declared.area.Kept.{Kept}
+use Rattle.text.specs.declared.reading.Reading.{Reading}
+use Rattle.text.specs.declared.reading.Reading.the-variants.{AsItStands, Normalised, Stripped}
 use Rattle.answer.specs.declared.reason.Reason.{Reason}
 use Rattle.answer.specs.declared.reason.Reason.the-variants.{NoReason, Long, Utf8}
 use Rattle.text.specs.Content.{Content, refused, content, contentOf, Cell, Piece}
 use Rattle.text.specs.Words.{normal, stripped}
 
-abbrev pub unread : Content → Reason
-unread refused = Utf8
-unread (content ps) = NoReason
+abbrev pub whyRefused : Content → Reason
+whyRefused refused = Utf8
+whyRefused (content ps) = NoReason
 
 -- why a content can't be read: it is too long, or else not well-formed
 unfoldable pub readableOf : List ℕ → Reason
-readableOf s = cond (leb (length s) 1024) (unread (contentOf s)) Long
+readableOf s = cond (leb (length s) 1024) (whyRefused (contentOf s)) Long
 
 -- a list in an area of 1,024 numbers, with zeros after it
 unfoldable pub padded : List ℕ → List ℕ
@@ -49,3 +51,9 @@ textIn k area = record { reason = k .reason; len = k .len; bytes = area }
 -- the bytes of a text, without the zeros after them
 abbrev pub textOf : Text → List ℕ
 textOf t = take (t .len) (t .bytes)
+
+-- the text that is read of a content s: as it stands, normalised or stripped
+abbrev pub textBy : Reading → List ℕ → List ℕ
+textBy AsItStands s = s
+textBy Normalised s = textOf (normalText s)
+textBy Stripped s = textOf (strippedText s)

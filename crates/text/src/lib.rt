@@ -1,6 +1,7 @@
 // UTF-8 text in a working area: one decoding step, the white points, stripping and normalising.
 mod area;
 mod read;
+mod reading;
 mod space;
 mod utf8;
 mod white;
@@ -9,6 +10,7 @@ pub use area::Kept;
 pub use area::Text;
 pub use area::first_bytes;
 pub use read::readable;
+pub use reading::Reading;
 pub use space::normalize_into;
 pub use space::normalize_space;
 pub use space::strip;

@@ -13,7 +13,7 @@ use Rattle.answer.specs.declared.reason.Reason.the-variants.{Long, NoReason}
 use Rattle.ascii.specs.Class.{all}
 use Rattle.text.specs.Utf8.{stepOf}
 use Rattle.text.specs.Content.{contentOf}
-use Rattle.text.specs.Answer.{unread, readableOf}
+use Rattle.text.specs.Answer.{whyRefused, readableOf}
 use Rattle.text.proofs.Points.{rest, point-fits, at-refused, at-last, unread-on, single, unread-ascii}
 use Rattle.text.proofs.read.readable.Statement.{statement}
 use Rattle.text.proofs.read.readable.Tie as tie
@@ -22,7 +22,7 @@ too-long : (s : List ℕ) → 1024 + 1 ≤ length s → Long ≡ readableOf s
 unfolding readableOf
 too-long s h = rw (lt-leb (length s) 1024 (omega arith))
 
-short : (s : List ℕ) → length s ≤ 1024 → unread (rest s 0) ≡ readableOf s
+short : (s : List ℕ) → length s ≤ 1024 → whyRefused (rest s 0) ≡ readableOf s
 unfolding readableOf contentOf
 short s h = rw (le-leb (length s) 1024 h)
 
@@ -30,7 +30,7 @@ ascii : (s : List ℕ) → length s ≤ 1024 → all single s ≡ true → NoRea
 ascii s h e = sym (unread-ascii 0 s e) ∙ short s h
 
 abbrev Inv-loop : tie.InvT-loop
-Inv-loop s at₀ at = (at ≤ length s) × (unread (rest s at) ≡ readableOf s)
+Inv-loop s at₀ at = (at ≤ length s) × (whyRefused (rest s at) ≡ readableOf s)
 
 abbrev μ-loop : tie.MeasureT-loop
 μ-loop s at₀ at = length s - at
