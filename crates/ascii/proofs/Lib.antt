@@ -3,3 +3,4 @@ pub mod Tests
 pub mod Class
 pub mod Same
 pub mod Area
+pub mod Pick

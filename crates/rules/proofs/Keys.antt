@@ -9,7 +9,7 @@ use lib.Dec.{eqb, ltb}
 use lib.ListN.{length, getD}
 use Rattle.ascii.specs.Pick.{pick}
 use Rattle.ascii.specs.Class.{among}
-use Rattle.ascii.specs.Written.{bytes}
+use Rattle.ascii.specs.Written.{bytes, sameBytes}
 use Rattle.ascii.proofs.Tests.{and-true, true-and, both-ways, not-true, false-true}
 use Rattle.rules.specs.declared.rule.Rule.{Rule}
 use Rattle.rules.specs.declared.rule.Rule.the-variants.{R46}
@@ -17,9 +17,9 @@ use Rattle.rules.specs.declared.rule.Scheme.{Scheme}
 use Rattle.rules.specs.declared.rule.Scheme.the-variants.{Four, NoScheme}
 use Rattle.rules.specs.declared.choice.Chosen.{Chosen}
 use Rattle.rules.specs.declared.choice.Chosen.the-variants.{By, NoRule}
-use Rattle.rules.specs.Facts.{facts, bytesOf, schemeRules}
-use Rattle.rules.specs.Choice.{sameBytes, withScheme, byScheme, addressTerms, atTerm}
-use Rattle.rules.specs.Keys.{keyFrom, withKey}
+use Rattle.rules.specs.Facts.{facts, schemeBytes, schemeRules}
+use Rattle.rules.specs.Choice.{withScheme, byScheme, addressTerms, atTerm}
+use Rattle.rules.specs.Inner.{keyFrom, withKey}
 
 either-way : (t : Bool) (x : Chosen) → x ≡ pick t x x
 unfolding pick
@@ -72,7 +72,7 @@ module _ (a b c d : ℕ) (ha : a < 256) (hb : b < 256) (hc : c < 256) (hd : d < 
       (true-and (eqb c z) _ (eq-eqb c z (omega arith))
       (true-and (eqb d w) true (eq-eqb d w (omega arith)) refl))))
 
-  same-scheme : (x : Scheme) → isFour x ≡ true → sameBytes S (bytesOf x) ≡ eqb (keyFrom 0 S) (keyFrom 0 (bytesOf x))
+  same-scheme : (x : Scheme) → isFour x ≡ true → sameBytes S (schemeBytes x) ≡ eqb (keyFrom 0 S) (keyFrom 0 (schemeBytes x))
   same-scheme NoScheme e = false-true e
   same-scheme (Four x y z w) e =
       let p = and-true (ltb x 256) _ e in
@@ -128,7 +128,7 @@ module _ (s : List ℕ) (n : length s ≡ 4) (h : Bytes s) where
 
 -- a scheme of another length
 module _ (s : List ℕ) (n : length s ≡ 4 → ⊥) where
-  not-same : (x : Scheme) → isFour x ≡ true → sameBytes s (bytesOf x) ≡ false
+  not-same : (x : Scheme) → isFour x ≡ true → sameBytes s (schemeBytes x) ≡ false
   not-same NoScheme e = false-true e
   not-same (Four a b c d) e = not-true _ (λ f. n (same-length s (a ∷ b ∷ c ∷ d ∷ []) f))
 

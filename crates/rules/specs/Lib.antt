@@ -1,7 +1,5 @@
--- The seventeen rules: their facts, which of them reads a field, what it finds in a text, and what a check answers.
+-- The seventeen rules: their facts, which of them reads a field, and what it finds in a text.
 pub mod Facts
 pub mod Choice
 pub mod Finding
-pub mod Check
-pub mod Detection
-pub mod Keys
+pub mod Inner

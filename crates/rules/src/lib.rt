@@ -1,13 +1,12 @@
-// The seventeen rules and the field check.
+// The seventeen rules: what is fixed about each, which of them reads a field, and what it finds in a text.
 mod choice;
-mod field;
-mod finding;
+mod judge;
 mod rule;
 
 pub use choice::Chosen;
 pub use choice::rule_for;
-pub use field::check;
-pub use field::check_by;
+pub use choice::rule_numbered;
+pub use judge::finding;
 pub use rule::Fixed;
 pub use rule::Rule;
 pub use rule::Scheme;

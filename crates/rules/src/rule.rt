@@ -2,6 +2,7 @@
 ghost use mathlib.Core.Path.{_≡_};
 ghost use Rattle.rules.specs.Facts.{facts};
 use answer::Severity;
+use text::Reading;
 
 // In the order of their numbers; 561 and 562 stand for R056-1 and R056-2.
 pub enum Rule {
@@ -30,12 +31,13 @@ pub enum Scheme {
     NoScheme,
 }
 
-// What is fixed about a rule. A raw rule reads the content itself, any other the normalised content.
+// What is fixed about a rule; its index is its place in the order of rules, from 0.
 pub struct Fixed {
+    pub index: usize,
     pub number: u32,
     pub severity: Severity,
     pub scheme: Scheme,
-    pub raw: bool,
+    pub reading: Reading,
 }
 
 impl Rule {
@@ -80,108 +82,132 @@ impl Rule {
     {
         match self {
             Rule::R40 => Fixed {
+                index: 0,
                 number: 40,
                 severity: Severity::Fatal,
                 scheme: Scheme::Four(b'0', b'0', b'8', b'8'),
-                raw: false,
+                reading: Reading::Normalised,
             },
             Rule::R41 => Fixed {
+                index: 1,
                 number: 41,
                 severity: Severity::Fatal,
                 scheme: Scheme::Four(b'0', b'1', b'9', b'2'),
-                raw: false,
+                reading: Reading::Normalised,
             },
             Rule::R42 => Fixed {
+                index: 2,
                 number: 42,
                 severity: Severity::Fatal,
                 scheme: Scheme::Four(b'0', b'1', b'8', b'4'),
-                raw: true,
+                reading: Reading::AsItStands,
             },
             Rule::R43 => Fixed {
+                index: 3,
                 number: 43,
                 severity: Severity::Fatal,
                 scheme: Scheme::Four(b'0', b'2', b'0', b'8'),
-                raw: false,
+                reading: Reading::Normalised,
             },
             Rule::R44 => Fixed {
+                index: 4,
                 number: 44,
                 severity: Severity::Warning,
                 scheme: Scheme::Four(b'0', b'2', b'0', b'1'),
-                raw: false,
+                reading: Reading::Normalised,
             },
             Rule::R45 => Fixed {
+                index: 5,
                 number: 45,
                 severity: Severity::Warning,
                 scheme: Scheme::Four(b'0', b'2', b'1', b'0'),
-                raw: false,
+                reading: Reading::Normalised,
             },
             Rule::R46 => Fixed {
+                index: 6,
                 number: 46,
                 severity: Severity::Warning,
                 scheme: Scheme::Four(b'9', b'9', b'0', b'7'),
-                raw: false,
+                reading: Reading::Normalised,
             },
             Rule::R47 => Fixed {
+                index: 7,
                 number: 47,
                 severity: Severity::Warning,
                 scheme: Scheme::Four(b'0', b'2', b'1', b'1'),
-                raw: false,
+                reading: Reading::Normalised,
             },
             Rule::R49 => Fixed {
+                index: 8,
                 number: 49,
                 severity: Severity::Fatal,
                 scheme: Scheme::Four(b'0', b'0', b'0', b'7'),
-                raw: false,
+                reading: Reading::Normalised,
             },
             Rule::R50 => Fixed {
+                index: 9,
                 number: 50,
                 severity: Severity::Fatal,
                 scheme: Scheme::Four(b'0', b'1', b'5', b'1'),
-                raw: false,
+                reading: Reading::Normalised,
             },
             Rule::R52 => Fixed {
+                index: 10,
                 number: 52,
                 severity: Severity::Fatal,
                 scheme: Scheme::Four(b'0', b'0', b'9', b'6'),
-                raw: true,
+                reading: Reading::AsItStands,
             },
             Rule::R53 => Fixed {
+                index: 11,
                 number: 53,
                 severity: Severity::Fatal,
                 scheme: Scheme::Four(b'0', b'1', b'9', b'8'),
-                raw: true,
+                reading: Reading::AsItStands,
             },
             Rule::R54 => Fixed {
+                index: 12,
                 number: 54,
                 severity: Severity::Warning,
                 scheme: Scheme::Four(b'0', b'1', b'0', b'6'),
-                raw: false,
+                reading: Reading::Normalised,
             },
             Rule::R55 => Fixed {
+                index: 13,
                 number: 55,
                 severity: Severity::Warning,
                 scheme: Scheme::Four(b'0', b'1', b'9', b'0'),
-                raw: false,
+                reading: Reading::Normalised,
             },
             Rule::R57 => Fixed {
+                index: 14,
                 number: 57,
                 severity: Severity::Warning,
                 scheme: Scheme::Four(b'0', b'2', b'1', b'7'),
-                raw: false,
+                reading: Reading::Normalised,
             },
             Rule::R561 => Fixed {
+                index: 15,
                 number: 561,
                 severity: Severity::Warning,
                 scheme: Scheme::Four(b'9', b'9', b'4', b'4'),
-                raw: false,
+                reading: Reading::Normalised,
             },
             Rule::R562 => Fixed {
+                index: 16,
                 number: 562,
                 severity: Severity::Warning,
                 scheme: Scheme::NoScheme,
-                raw: false,
+                reading: Reading::Normalised,
             },
         }
+    }
+
+    pub fn index(self) -> usize
+        ensures { λ r. ⌜ r ≡ facts self .index ⌝ }
+    {
+        let f = self.facts();
+        f.index
     }
 
     pub fn number(self) -> u32
@@ -205,10 +231,10 @@ impl Rule {
         f.scheme
     }
 
-    pub fn is_raw(self) -> bool
-        ensures { λ r. ⌜ r ≡ facts self .raw ⌝ }
+    pub fn reading(self) -> Reading
+        ensures { λ r. ⌜ r ≡ facts self .reading ⌝ }
     {
         let f = self.facts();
-        f.raw
+        f.reading
     }
 }

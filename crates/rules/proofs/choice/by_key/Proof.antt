@@ -4,7 +4,7 @@ use Prim.Native.Nat.{ℕ}
 use borrow.Author.Tests.{ne-eqb}
 use Rattle.ascii.specs.Pick.{pick}
 use Rattle.rules.specs.Facts.{schemeRules}
-use Rattle.rules.specs.Keys.{withKey}
+use Rattle.rules.specs.Inner.{withKey}
 use Rattle.rules.proofs.choice.by_key.Statement.{statement}
 use Rattle.rules.proofs.choice.by_key.Tie as tie
 

@@ -6,7 +6,7 @@ use native.Mathlib.Omega.{arith}
 use borrow.Author.Needs.{needs}
 use denote.Ref.{now}
 use lib.ListN.{length, getD}
-use Rattle.rules.specs.Keys.{keyFrom}
+use Rattle.rules.specs.Inner.{keyFrom}
 use Rattle.rules.proofs.choice.key_of.Statement.{statement}
 use Rattle.rules.proofs.choice.key_of.Tie as tie
 

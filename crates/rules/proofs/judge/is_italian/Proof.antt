@@ -1,9 +1,9 @@
--- `rules::finding::is_italian` meets its contract.
+-- `rules::judge::is_italian` meets its contract.
 use denote.Ref.{now}
 use Rattle.rules.proofs.Laws.{italian-two}
 use borrow.Author.Needs.{needs}
-use Rattle.rules.proofs.finding.is_italian.Statement.{statement}
-use Rattle.rules.proofs.finding.is_italian.Tie as tie
+use Rattle.rules.proofs.judge.is_italian.Statement.{statement}
+use Rattle.rules.proofs.judge.is_italian.Tie as tie
 
 starts-with-requires : tie.Need-starts-with-requires
 starts-with-requires c κs = search needs

@@ -1,14 +1,15 @@
--- `rules::finding::finding` meets its contract: each arm is what its rule finds.
+-- `rules::judge::finding` meets its contract: each arm is what its rule finds.
 use mathlib.Core.Path.{_≡_, sym, ap, _∙_}
 use mathlib.Core.List.{List}
 use Prim.Native.Nat.{ℕ}
 use Rattle.figures.specs.declared.finding.Finding.{Finding}
 use Rattle.rules.specs.declared.rule.Rule.{Rule}
 use Rattle.rules.specs.declared.rule.Rule.the-variants.{R40, R41, R42, R43, R44, R45, R46, R47, R49, R50, R52, R53, R54, R55, R57, R561, R562}
-use Rattle.rules.specs.Finding.{formOnly, finding}
+use Rattle.figures.specs.Findings.{formOnly}
+use Rattle.rules.specs.Finding.{finding}
 use borrow.Author.Needs.{needs}
-use Rattle.rules.proofs.finding.finding.Statement.{statement}
-use Rattle.rules.proofs.finding.finding.Tie as tie
+use Rattle.rules.proofs.judge.finding.Statement.{statement}
+use Rattle.rules.proofs.judge.finding.Tie as tie
 
 row : (q : Rule) {r : Rule} (s : List ℕ) {x : Finding} → r ≡ q → x ≡ finding q s → x ≡ finding r s
 row q s e f = f ∙ sym (ap (λ (p : Rule). finding p s) e)
@@ -70,8 +71,8 @@ form-only-requires-4 c κs = search needs
 enum-told-8 : tie.Need-enum-told-8
 enum-told-8 c = search needs
 
-partita-iva-requires : tie.Need-partita-iva-requires
-partita-iva-requires c κs = search needs
+italian-vat-requires : tie.Need-italian-vat-requires
+italian-vat-requires c κs = search needs
 
 enum-told-9 : tie.Need-enum-told-9
 enum-told-9 c = search needs
@@ -142,11 +143,8 @@ form-only-requires-10 c κs = search needs
 enum-told-17 : tie.Need-enum-told-17
 enum-told-17 c = search needs
 
-dutch-vat-requires-2 : tie.Need-dutch-vat-requires-2
-dutch-vat-requires-2 c κs = search needs
-
-form-only-requires-11 : tie.Need-form-only-requires-11
-form-only-requires-11 c κs = search needs
+dutch-if-said-requires : tie.Need-dutch-if-said-requires
+dutch-if-said-requires c κs = search needs
 
 returns : tie.Need-returns
 returns c = row R40 _ (c .before .enum-told .given .1) (c .gln .ensures)
@@ -170,7 +168,7 @@ returns-7 : tie.Need-returns-7
 returns-7 c = row R46 _ (c .before .before .enum-told7 .given .1) (c .form-only4 .ensures ∙ ap formOnly (c .before .codice-fiscale2 .ensures))
 
 returns-8 : tie.Need-returns-8
-returns-8 c = row R47 _ (c .before .enum-told8 .given .1) (c .partita-iva .ensures)
+returns-8 c = row R47 _ (c .before .enum-told8 .given .1) (c .italian-vat .ensures)
 
 returns-9 : tie.Need-returns-9
 returns-9 c = row R49 _ (c .before .enum-told9 .given .1) (c .se-orgnr .ensures)
@@ -197,7 +195,7 @@ returns-16 : tie.Need-returns-16
 returns-16 c = row R561 _ (c .before .before .enum-told16 .given .1) (c .form-only10 .ensures ∙ ap formOnly (c .before .dutch-vat .ensures))
 
 returns-17 : tie.Need-returns-17
-returns-17 c = row R562 _ (c .before .before .enum-told17 .given .1) (c .form-only11 .ensures ∙ ap formOnly (c .before .dutch-vat2 .ensures))
+returns-17 c = row R562 _ (c .before .enum-told17 .given .1) (c .dutch-if-said .ensures)
 
 pub finding-spec : {M : Type 1} → statement M
 finding-spec =
@@ -222,7 +220,7 @@ finding-spec =
     codice-fiscale-requires-2
     form-only-requires-4
     enum-told-8
-    partita-iva-requires
+    italian-vat-requires
     enum-told-9
     se-orgnr-requires
     enum-told-10
@@ -246,8 +244,7 @@ finding-spec =
     dutch-vat-requires
     form-only-requires-10
     enum-told-17
-    dutch-vat-requires-2
-    form-only-requires-11
+    dutch-if-said-requires
     returns
     returns-2
     returns-3

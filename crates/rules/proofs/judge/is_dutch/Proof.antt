@@ -1,8 +1,8 @@
--- `rules::finding::is_dutch` meets its contract.
+-- `rules::judge::is_dutch` meets its contract.
 use Rattle.rules.specs.Finding.{isDutch}
 use borrow.Author.Needs.{needs}
-use Rattle.rules.proofs.finding.is_dutch.Statement.{statement}
-use Rattle.rules.proofs.finding.is_dutch.Tie as tie
+use Rattle.rules.proofs.judge.is_dutch.Statement.{statement}
+use Rattle.rules.proofs.judge.is_dutch.Tie as tie
 
 starts-with-requires : tie.Need-starts-with-requires
 starts-with-requires c κs = search needs

@@ -1,10 +1,10 @@
--- `rules::finding::starts_with` meets its contract.
+-- `rules::judge::starts_with` meets its contract.
 use native.Mathlib.Omega.{arith}
 use denote.Ref.{now}
 use Rattle.rules.proofs.Laws.{starts-short, starts-first, starts-other}
 use borrow.Author.Needs.{needs}
-use Rattle.rules.proofs.finding.starts_with.Statement.{statement}
-use Rattle.rules.proofs.finding.starts_with.Tie as tie
+use Rattle.rules.proofs.judge.starts_with.Statement.{statement}
+use Rattle.rules.proofs.judge.starts_with.Tie as tie
 
 returns : tie.Need-returns
 returns c = starts-short (now (c .before .args .text)) _ _ (omega arith)
