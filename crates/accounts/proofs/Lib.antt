@@ -1,5 +1,3 @@
--- Laws of the number and its remainder (Remainder), of what bytes are read as (Value), and of the answers (Answers).
+-- Laws of the number and its remainder (Remainder), and of what bytes are read as (Value).
 pub mod Remainder
 pub mod Value
-pub mod Answers
-pub mod Cases

@@ -9,30 +9,35 @@ use borrow.Author.Tests.{lt-ltb, le-ltb}
 use lib.ListN.{length, getD, take, drop, length-drop, drop-of-length-le}
 use lib.Seq.{drop-cons, take-all}
 use Rattle.ascii.specs.Pick.{pick}
-use Rattle.accounts.specs.Spelled.{valueOf, written, spell, decimal}
-use Rattle.accounts.specs.Rules.{number, remainder}
-use Rattle.accounts.specs.Steps.{after, Steps}
+use Rattle.figures.specs.Total.{number}
+use Rattle.accounts.specs.Spelled.{valueOf, written, spell, spelled, remainder}
+use Rattle.accounts.specs.Inner.{after, Steps}
 
 -- ---- digits, one after another
 
 pub after-nil : (r : ℕ) → after r [] ≡ r % 97
-unfolding after decimal
+unfolding after
 after-nil r = let e : r * 1 + 0 ≡ r = omega arith in ap (λ x. x % 97) e
 
-pub after-cons : (r d : ℕ) (ds : List ℕ) → after r (d ∷ ds) ≡ after (r * 10 + d) ds
-unfolding after decimal
-after-cons r d ds =
+-- a byte more, of which what it has above 48 counts
+pub after-cons : (r b : ℕ) (ds : List ℕ) → after r (b ∷ ds) ≡ after (r * 10 + (b - 48)) ds
+unfolding after
+after-cons r b ds =
     let p : r * 10 ^ suc (length ds) ≡ (r * 10) * 10 ^ length ds = omega (arith, ap (λ x. r * x) (pow-suc 10 (length ds))) in
-    let e : r * 10 ^ suc (length ds) + (d * 10 ^ length ds + decimal ds) ≡ (r * 10 + d) * 10 ^ length ds + decimal ds = omega arith in
+    let e : r * 10 ^ suc (length ds) + (10 ^ length ds * (b - 48) + number ds) ≡ (r * 10 + (b - 48)) * 10 ^ length ds + number ds = omega arith in
     ap (λ x. x % 97) e
+
+-- a digit more
+after-digit : (r d : ℕ) (ds : List ℕ) → after r ((d + 48) ∷ ds) ≡ after (r * 10 + d) ds
+after-digit r d ds = let e : d + 48 - 48 ≡ d = omega arith in after-cons r (d + 48) ds ∙ ap (λ x. after (r * 10 + x) ds) e
 
 pub after-mod : (r : ℕ) (ds : List ℕ) → after (r % 97) ds ≡ after r ds
 unfolding after
 after-mod r ds =
     let q = div-add-mod' r 97 in
     let p : r * 10 ^ length ds ≡ (r / 97 * 97 + r % 97) * 10 ^ length ds = ap (λ x. x * 10 ^ length ds) (sym q) in
-    let e : r * 10 ^ length ds + decimal ds ≡ (r / 97 * 10 ^ length ds) * 97 + (r % 97 * 10 ^ length ds + decimal ds) = omega arith in
-    sym (ap (λ x. x % 97) e ∙ mul-add-mod-self-right (r / 97 * 10 ^ length ds) 97 (r % 97 * 10 ^ length ds + decimal ds))
+    let e : r * 10 ^ length ds + number ds ≡ (r / 97 * 10 ^ length ds) * 97 + (r % 97 * 10 ^ length ds + number ds) = omega arith in
+    sym (ap (λ x. x % 97) e ∙ mul-add-mod-self-right (r / 97 * 10 ^ length ds) 97 (r % 97 * 10 ^ length ds + number ds))
 
 -- only the remainder of what went before counts
 pub after-same : (r t : ℕ) (ds : List ℕ) → r % 97 ≡ t % 97 → after r ds ≡ after t ds
@@ -40,25 +45,25 @@ after-same r t ds h = sym (after-mod r ds) ∙ ap (λ x. after x ds) h ∙ after
 
 pub after-append : (r : ℕ) (u v : List ℕ) → after r (u ++ v) ≡ after (after r u) v
 after-append r [] v = sym (ap (λ x. after x v) (after-nil r) ∙ after-mod r v)
-after-append r (d ∷ u) v = after-cons r d (u ++ v) ∙ after-append (r * 10 + d) u v ∙ ap (λ x. after x v) (sym (after-cons r d u))
+after-append r (b ∷ u) v = after-cons r b (u ++ v) ∙ after-append (r * 10 + (b - 48)) u v ∙ ap (λ x. after x v) (sym (after-cons r b u))
 
 -- the number itself leaves what the steps from 0 leave
-pub after-zero : (ds : List ℕ) → decimal ds % 97 ≡ after 0 ds
+pub after-zero : (ds : List ℕ) → number ds % 97 ≡ after 0 ds
 unfolding after
-after-zero ds = let e : decimal ds ≡ 0 * 10 ^ length ds + decimal ds = omega arith in ap (λ x. x % 97) e
+after-zero ds = let e : number ds ≡ 0 * 10 ^ length ds + number ds = omega arith in ap (λ x. x % 97) e
 
 -- ---- one value more: one digit, or two
 
 pub after-one : (r v : ℕ) (ds : List ℕ) → v < 10 → after r (written v ++ ds) ≡ after (r * 10 + v) ds
 unfolding written pick
-after-one r v ds h = rw (lt-ltb v 10 h) (after-cons r v ds)
+after-one r v ds h = rw (lt-ltb v 10 h) (after-digit r v ds)
 
 pub after-two : (r v : ℕ) (ds : List ℕ) → 10 ≤ v → after r (written v ++ ds) ≡ after (r * 100 + v) ds
 unfolding written pick
 after-two r v ds h =
     let e : (r * 10 + v / 10) * 10 + v % 10 ≡ r * 100 + v = omega (arith, div-add-mod' v 10) in
     rw (le-ltb v 10 h)
-    (after-cons r (v / 10) (v % 10 ∷ ds) ∙ after-cons (r * 10 + v / 10) (v % 10) ds ∙ ap (λ x. after x ds) e)
+    (after-digit r (v / 10) ((v % 10 + 48) ∷ ds) ∙ after-digit (r * 10 + v / 10) (v % 10) ds ∙ ap (λ x. after x ds) e)
 
 -- the code's step, from a sum x that leaves what acc leaves
 module _ (acc x b v : ℕ) (e : x % 97 ≡ acc % 97) (h : v ≡ valueOf b) where
@@ -91,7 +96,7 @@ spell-end r s i h = rw (drop-of-length-le s h) (after-nil r)
 
 -- the remainder of the number, by the two parts that are read
 pub parts : (from : ℕ) (s : List ℕ) → remainder from s ≡ after (after 0 (spell (drop from s))) (spell (take 4 s))
-unfolding remainder number
+unfolding remainder spelled
 parts from s =
     after-zero (spell (drop from s ++ take 4 s))
     ∙ ap (λ t. after 0 t) (spell-append (drop from s) (take 4 s))

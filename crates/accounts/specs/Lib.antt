@@ -1,4 +1,4 @@
--- The IBAN and the creditor identifier: the number that a text spells, the rules, and what a step of the remainder keeps.
+-- The IBAN and the creditor identifier: the number that a text spells, and what is found in a text.
 pub mod Spelled
 pub mod Rules
-pub mod Steps
+pub mod Inner

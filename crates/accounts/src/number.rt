@@ -4,9 +4,8 @@ ghost use mathlib.Core.Bool.{true};
 ghost use Prim.Native.Nat.{_≤_, _<_, _%_};
 ghost use lib.ListN.{length};
 ghost use Rattle.ascii.specs.Class.{isPlain, all};
-ghost use Rattle.accounts.specs.Spelled.{valueOf, spell};
-ghost use Rattle.accounts.specs.Rules.{remainder};
-ghost use Rattle.accounts.specs.Steps.{after, Steps};
+ghost use Rattle.accounts.specs.Spelled.{valueOf, spell, remainder};
+ghost use Rattle.accounts.specs.Inner.{after, Steps};
 
 fn reduced(x: u64) -> u64
     ensures { λ r. ⌜ (r % 97 ≡ x % 97) × (r < 100000000000000000) ⌝ }

@@ -1,4 +1,2 @@
--- Laws of the withdrawn codes (Rows) and of the strict GLN (Strict), and their examples (Cases).
+-- Laws of the withdrawn codes.
 pub mod Rows
-pub mod Strict
-pub mod Cases

@@ -1,39 +1,18 @@
-// The strict GLN: scheme 0088, read raw.
+// The strict GLN.
 ghost use mathlib.Core.Path.{_≡_};
-ghost use Rattle.guard.specs.Gln.{strictGln, easAnswer};
-use answer::Answer;
-use answer::Severity;
-use answer::judged;
-use answer::no_rule;
-use ascii::same_bytes;
+ghost use Rattle.guard.specs.Gln.{strictGln};
 use figures::Finding;
 use figures::gln;
-use figures::reason;
-use forms::Fault;
+use forms::is_fit;
 use forms::n_digits;
-use text::readable;
 
-// What is wrong with a content as a GLN of exactly 13 digits.
-fn gln_problem(content: &[u8]) -> Finding
-    ensures { λ r. ⌜ r ≡ strictGln (now (content .entry)) ⌝ }
+// What is found in a text as a GLN of exactly 13 digits.
+pub fn gln_problem(text: &[u8]) -> Finding
+    ensures { λ r. ⌜ r ≡ strictGln (now (text .entry)) ⌝ }
 {
-    match n_digits(content, 13) {
-        Fault::Fits => gln(content),
-        Fault::Length => Finding::Unfit(Fault::Length),
-        Fault::At(k) => Finding::Unfit(Fault::At(k)),
+    let fault = n_digits(text, 13);
+    if is_fit(fault) {
+        return gln(text);
     }
-}
-
-// The answer to a value under a scheme. The content of any other scheme is not looked at.
-pub fn eas_value(scheme: &[u8], content: &[u8]) -> Answer
-    ensures { λ r. ⌜ r ≡ easAnswer (now (scheme .entry)) (now (content .entry)) ⌝ }
-{
-    if same_bytes(scheme, b"0088") {
-        let unread = readable(content);
-        if unread.number() == 0 {
-            return judged(0, Severity::NoSeverity, reason(gln_problem(content)));
-        }
-        return judged(0, Severity::NoSeverity, unread);
-    }
-    no_rule()
+    Finding::Unfit(fault)
 }

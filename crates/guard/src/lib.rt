@@ -5,4 +5,4 @@ mod gln;
 pub use code::Code;
 pub use code::Withdrawal;
 pub use code::withdrawn;
-pub use gln::eas_value;
+pub use gln::gln_problem;

@@ -1,61 +1,44 @@
 -- `accounts::account::iban_text` meets its contract. Assumes nothing.
+use mathlib.Core.Path.{ap}
 use native.Mathlib.Omega.{arith}
 use borrow.Author.Needs.{needs}
-use Rattle.forms.specs.Table.{iban}
-use Rattle.forms.specs.declared.form.Fault.the-variants.{Fits, Length, At}
+use lib.Dec.{eqb}
+use Rattle.forms.specs.Form.{isFit, fits}
 use Rattle.forms.proofs.Named.{account-fits}
-use Rattle.accounts.proofs.Answers.{told, iban-unfit, iban-right, iban-wrong}
+use Rattle.figures.proofs.Judging.{fitted, unfitted, met}
+use Rattle.accounts.specs.Rules.{ibanFinding}
 use Rattle.accounts.proofs.account.iban_text.Statement.{statement}
 use Rattle.accounts.proofs.account.iban_text.Tie as tie
 
 iban-form-requires : tie.Need-iban-form-requires
 iban-form-requires c κs = search needs
 
-enum-told : tie.Need-enum-told
-enum-told c = search needs
+is-fit-requires : tie.Need-is-fit-requires
+is-fit-requires c κs = search needs
 
 remainder-requires : tie.Need-remainder-requires
+unfolding fits
 remainder-requires c κs =
-    let d = c .before .before in
-    let s = d .before .before .args .text .now in
-    let a = account-fits 5 34 s (omega arith) (told iban s Fits (d .iban-form .ensures) (c .enum-told .given .1)) in
+    let s = c .before .before .before .before .args .text .now in
+    let a = account-fits 5 34 s (omega arith) (ap isFit (fitted _ (c .before .is-fit .ensures) (c .before .before .iban-form .ensures) (c .if1 .taken))) in
     let l = a .least in
     (omega arith, omega arith, a .plain)
 
+decided-requires : tie.Need-decided-requires
+decided-requires c κs = search needs
+
 returns : tie.Need-returns
+unfolding ibanFinding
 returns c =
-    let d = c .before .before in
-    let e = d .before .before in
-    iban-right _ (told iban _ Fits (e .iban-form .ensures) (d .enum-told .given .1)) (c .before .remainder .ensures) (c .if1 .taken)
-
-enum-told-2 : tie.Need-enum-told-2
-enum-told-2 c = search needs
-
-enum-told-3 : tie.Need-enum-told-3
-enum-told-3 c = search needs
+    let b = c .before .before .before in
+    met _ (fitted _ (b .is-fit .ensures) (b .before .iban-form .ensures) (c .before .before .if1 .taken))
+    (ap (λ t. eqb t 1) (c .before .remainder .ensures)) (c .decided .ensures)
 
 returns-2 : tie.Need-returns-2
-returns-2 c =
-    let d = c .before .before in
-    let e = d .before .before in
-    iban-wrong _ (told iban _ Fits (e .iban-form .ensures) (d .enum-told .given .1)) (c .before .remainder .ensures) (c .if1 .left)
-
-returns-3 : tie.Need-returns-3
-returns-3 c = iban-unfit _ (told iban _ Length (c .before .before .iban-form .ensures) (c .enum-told2 .given .1))
-
-returns-4 : tie.Need-returns-4
-returns-4 c = iban-unfit _ (told iban _ (At _) (c .before .before .iban-form .ensures) (c .enum-told3 .given .1))
+unfolding ibanFinding
+returns-2 c = unfitted _ (c .before .is-fit .ensures) (c .before .before .iban-form .ensures) _ (c .if1 .left)
 
 pub iban-text-spec : {M : Type 1} → statement M
 iban-text-spec =
     tie.close
-    (tie.spec
-    iban-form-requires
-    enum-told
-    remainder-requires
-    returns
-    enum-told-2
-    enum-told-3
-    returns-2
-    returns-3
-    returns-4)
+    (tie.spec iban-form-requires is-fit-requires remainder-requires decided-requires returns returns-2)

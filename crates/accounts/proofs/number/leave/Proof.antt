@@ -6,7 +6,7 @@ use lib.ListN.{length, drop}
 use Rattle.ascii.specs.Class.{isPlain}
 use Rattle.ascii.proofs.Class.{all-at}
 use Rattle.accounts.specs.Spelled.{spell}
-use Rattle.accounts.specs.Steps.{after}
+use Rattle.accounts.specs.Inner.{after}
 use Rattle.accounts.proofs.Remainder.{spell-step, spell-end}
 use Rattle.accounts.proofs.number.leave.Statement.{statement}
 use Rattle.accounts.proofs.number.leave.Tie as tie
