@@ -23,7 +23,7 @@ use Rattle.checks.specs.declared.judge.Judge.the-variants.{ByRule, Iban,
 use Rattle.checks.specs.Reading.{foundIn, answered}
 
 -- what a judge finds in a text
-abbrev pub findingBy : Judge → List ℕ → Finding
+unfoldable pub findingBy : Judge → List ℕ → Finding
 findingBy (ByRule r) s = finding r s
 findingBy Iban s = ibanFinding s
 findingBy Creditor s = creditorFinding s

@@ -1,0 +1,15 @@
+-- `checks::answers::is_valid_iban_checksum` meets its contract.
+use Rattle.checks.specs.Check.{ibanAnswer}
+use borrow.Author.Needs.{needs}
+use Rattle.checks.proofs.answers.is_valid_iban_checksum.Statement.{statement}
+use Rattle.checks.proofs.answers.is_valid_iban_checksum.Tie as tie
+
+answer-by-requires : tie.Need-answer-by-requires
+answer-by-requires c κs = search needs
+
+returns : tie.Need-returns
+unfolding ibanAnswer
+returns c = c .answer-by .ensures
+
+pub is-valid-iban-checksum-spec : {M : Type 1} → statement M
+is-valid-iban-checksum-spec = tie.close (tie.spec answer-by-requires returns)

@@ -1,0 +1,55 @@
+-- `checks::reading::found_in` meets its contract.
+use mathlib.Core.Path.{_≡_, sym, ap, _∙_}
+use mathlib.Core.List.{List}
+use Prim.Native.Nat.{ℕ}
+use Rattle.text.specs.declared.reading.Reading.{Reading}
+use Rattle.text.specs.declared.reading.Reading.the-variants.{AsItStands, Normalised, Stripped}
+use Rattle.figures.specs.declared.finding.Finding.{Finding}
+use Rattle.checks.specs.Reading.{foundIn}
+use borrow.Author.Needs.{needs}
+use Rattle.checks.proofs.reading.found_in.Statement.{statement}
+use Rattle.checks.proofs.reading.found_in.Tie as tie
+
+row : (q : Reading) {how : Reading} (judge : List ℕ → Finding) (s : List ℕ) {x : Finding} → how ≡ q → x ≡ foundIn q judge s → x ≡ foundIn how judge s
+row q judge s e f = f ∙ sym (ap (λ (h : Reading). foundIn h judge s) e)
+
+enum-told : tie.Need-enum-told
+enum-told c = search needs
+
+as-it-stands-requires : tie.Need-as-it-stands-requires
+as-it-stands-requires c κs = search needs
+
+enum-told-2 : tie.Need-enum-told-2
+enum-told-2 c = search needs
+
+normalised-requires : tie.Need-normalised-requires
+normalised-requires c κs = search needs
+
+enum-told-3 : tie.Need-enum-told-3
+enum-told-3 c = search needs
+
+stripped-requires : tie.Need-stripped-requires
+stripped-requires c κs = search needs
+
+returns : tie.Need-returns
+returns c = row AsItStands _ _ (c .before .enum-told .given .1) (c .as-it-stands .ensures)
+
+returns-2 : tie.Need-returns-2
+returns-2 c = row Normalised _ _ (c .before .enum-told2 .given .1) (c .normalised .ensures)
+
+returns-3 : tie.Need-returns-3
+returns-3 c = row Stripped _ _ (c .before .enum-told3 .given .1) (c .stripped .ensures)
+
+pub found-in-spec : {M : Type 1} → statement M
+found-in-spec =
+    tie.close
+    (tie.spec
+    enum-told
+    as-it-stands-requires
+    enum-told-2
+    normalised-requires
+    enum-told-3
+    stripped-requires
+    returns
+    returns-2
+    returns-3)
