@@ -83,7 +83,7 @@ fn show_check(field: &[u8]) {
     let content = behind(field, term_end);
     let n = field.len();
     let term = decimal(&field[term_start..term_end]);
-    show_answer(rules::check(&field[0..scheme_end], term, &field[content..n]));
+    show_answer(checks::check(&field[0..scheme_end], term, &field[content..n]));
 }
 
 fn show_fault(fault: Fault) {
@@ -128,7 +128,7 @@ fn show_gln(field: &[u8]) {
     let end = word_end(field, 0);
     let start = behind(field, end);
     let n = field.len();
-    show_answer(guard::eas_value(&field[0..end], &field[start..n]));
+    show_answer(checks::eas_value(&field[0..end], &field[start..n]));
 }
 
 fn show_code(code: &[u8]) {
@@ -155,8 +155,8 @@ fn call(command: u8, content: &[u8]) {
         b'd' => show_steps(content),
         b'c' => show_check(content),
         b'f' => show_figure(content),
-        b'i' => show_answer(accounts::is_valid_iban_checksum(content)),
-        b'r' => show_answer(accounts::is_valid_creditor_identifier(content)),
+        b'i' => show_answer(checks::is_valid_iban_checksum(content)),
+        b'r' => show_answer(checks::is_valid_creditor_identifier(content)),
         b'g' => show_gln(content),
         b'w' => show_code(content),
         b'a' => show_answer(lines::answer_line(content)),

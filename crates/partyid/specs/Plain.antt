@@ -12,7 +12,8 @@ use Rattle.guard.specs.declared.code.Code.{Code}
 use Rattle.guard.specs.declared.code.Withdrawal.{Withdrawal}
 use Rattle.guard.specs.declared.code.Withdrawal.the-variants.{NotWithdrawn, NoSuccessor, Successor}
 use Rattle.corrections.specs.declared.done.Done.{Done}
-use Rattle.corrections.specs.Outcome.{Outcome, over}
+use Rattle.ascii.specs.Area.{put}
+use Rattle.corrections.specs.Outcome.{Outcome}
 use Rattle.partyid.specs.declared.plain.PartyidAnswer.{PartyidAnswer}
 use Rattle.partyid.specs.declared.plain.PartyidDone.{PartyidDone}
 use Rattle.partyid.specs.declared.plain.PartyidCode.{PartyidCode}
@@ -58,4 +59,4 @@ plainDone r = record { reason = reasonNumber (r .reason); count = r .count }
 -- a completion or a listing as a program in C has it: two numbers, and the area, in which every byte that is not written stays
 pub record Performed (o : Outcome) (area : List ℕ) (r : PartyidDone) (after : List ℕ) : Type 0 where
   pub numbers : r ≡ plainDone (o .says)
-  pub bytes : after ≡ over (o .writes) area
+  pub bytes : after ≡ put area 0 (o .writes)

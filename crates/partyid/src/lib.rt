@@ -1,17 +1,17 @@
 // The library for programs in C and Rust: every public function, on any bytes, with numbers for its answer.
 mod batch;
-mod checks;
+mod checked;
 mod content;
 mod plain;
 mod work;
 
 pub use batch::partyid_answer_line;
 pub use batch::partyid_answer_lines;
-pub use checks::partyid_check;
-pub use checks::partyid_eas_value;
-pub use checks::partyid_is_valid_creditor_identifier;
-pub use checks::partyid_is_valid_iban_checksum;
-pub use checks::partyid_withdrawn;
+pub use checked::partyid_check;
+pub use checked::partyid_eas_value;
+pub use checked::partyid_is_valid_creditor_identifier;
+pub use checked::partyid_is_valid_iban_checksum;
+pub use checked::partyid_withdrawn;
 pub use content::partyid_decode;
 pub use content::partyid_is_white;
 pub use content::partyid_normalize_space;

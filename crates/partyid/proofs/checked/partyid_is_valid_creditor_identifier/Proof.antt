@@ -1,9 +1,9 @@
--- `partyid::checks::partyid_is_valid_creditor_identifier` meets its contract.
+-- `partyid::checked::partyid_is_valid_creditor_identifier` meets its contract.
 use mathlib.Core.Path.{ap, _∙_}
 use Rattle.partyid.specs.Plain.{plainAnswer}
 use borrow.Author.Needs.{needs}
-use Rattle.partyid.proofs.checks.partyid_is_valid_creditor_identifier.Statement.{statement}
-use Rattle.partyid.proofs.checks.partyid_is_valid_creditor_identifier.Tie as tie
+use Rattle.partyid.proofs.checked.partyid_is_valid_creditor_identifier.Statement.{statement}
+use Rattle.partyid.proofs.checked.partyid_is_valid_creditor_identifier.Tie as tie
 
 is-valid-creditor-identifier-requires : tie.Need-is-valid-creditor-identifier-requires
 is-valid-creditor-identifier-requires c κs = search needs

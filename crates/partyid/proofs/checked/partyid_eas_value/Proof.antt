@@ -1,9 +1,9 @@
--- `partyid::checks::partyid_eas_value` meets its contract.
+-- `partyid::checked::partyid_eas_value` meets its contract.
 use mathlib.Core.Path.{ap, _∙_}
 use Rattle.partyid.specs.Plain.{plainAnswer}
 use borrow.Author.Needs.{needs}
-use Rattle.partyid.proofs.checks.partyid_eas_value.Statement.{statement}
-use Rattle.partyid.proofs.checks.partyid_eas_value.Tie as tie
+use Rattle.partyid.proofs.checked.partyid_eas_value.Statement.{statement}
+use Rattle.partyid.proofs.checked.partyid_eas_value.Tie as tie
 
 eas-value-requires : tie.Need-eas-value-requires
 eas-value-requires c κs = search needs

@@ -1,9 +1,9 @@
--- `partyid::checks::partyid_check` meets its contract.
+-- `partyid::checked::partyid_check` meets its contract.
 use mathlib.Core.Path.{ap, _∙_}
 use Rattle.partyid.specs.Plain.{plainAnswer}
 use borrow.Author.Needs.{needs}
-use Rattle.partyid.proofs.checks.partyid_check.Statement.{statement}
-use Rattle.partyid.proofs.checks.partyid_check.Tie as tie
+use Rattle.partyid.proofs.checked.partyid_check.Statement.{statement}
+use Rattle.partyid.proofs.checked.partyid_check.Tie as tie
 
 check-requires : tie.Need-check-requires
 check-requires c κs = search needs

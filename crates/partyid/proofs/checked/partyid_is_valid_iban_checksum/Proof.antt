@@ -1,9 +1,9 @@
--- `partyid::checks::partyid_is_valid_iban_checksum` meets its contract.
+-- `partyid::checked::partyid_is_valid_iban_checksum` meets its contract.
 use mathlib.Core.Path.{ap, _∙_}
 use Rattle.partyid.specs.Plain.{plainAnswer}
 use borrow.Author.Needs.{needs}
-use Rattle.partyid.proofs.checks.partyid_is_valid_iban_checksum.Statement.{statement}
-use Rattle.partyid.proofs.checks.partyid_is_valid_iban_checksum.Tie as tie
+use Rattle.partyid.proofs.checked.partyid_is_valid_iban_checksum.Statement.{statement}
+use Rattle.partyid.proofs.checked.partyid_is_valid_iban_checksum.Tie as tie
 
 is-valid-iban-checksum-requires : tie.Need-is-valid-iban-checksum-requires
 is-valid-iban-checksum-requires c κs = search needs

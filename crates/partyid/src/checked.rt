@@ -1,8 +1,6 @@
 // The checks: a field, accounts, the strict GLN; and the withdrawn codes.
 ghost use mathlib.Core.Path.{_≡_};
-ghost use Rattle.rules.specs.Check.{checkOf};
-ghost use Rattle.accounts.specs.Rules.{ibanAnswer, creditorAnswer};
-ghost use Rattle.guard.specs.Gln.{easAnswer};
+ghost use Rattle.checks.specs.Check.{checkOf, ibanAnswer, creditorAnswer, easAnswer};
 ghost use Rattle.guard.specs.Codes.{withdrawnOf};
 ghost use Rattle.partyid.specs.Plain.{plainAnswer, plainCode};
 use super::plain::PartyidAnswer;
@@ -14,28 +12,28 @@ use super::plain::code_numbers;
 pub extern "C" fn partyid_check(scheme: &[u8], term: u32, content: &[u8]) -> PartyidAnswer
     ensures { λ r. ⌜ r ≡ plainAnswer (checkOf (now (scheme .entry)) term (now (content .entry))) ⌝ }
 {
-    answer_numbers(rules::check(scheme, term, content))
+    answer_numbers(checks::check(scheme, term, content))
 }
 
 #[no_mangle]
 pub extern "C" fn partyid_is_valid_iban_checksum(content: &[u8]) -> PartyidAnswer
     ensures { λ r. ⌜ r ≡ plainAnswer (ibanAnswer (now (content .entry))) ⌝ }
 {
-    answer_numbers(accounts::is_valid_iban_checksum(content))
+    answer_numbers(checks::is_valid_iban_checksum(content))
 }
 
 #[no_mangle]
 pub extern "C" fn partyid_is_valid_creditor_identifier(content: &[u8]) -> PartyidAnswer
     ensures { λ r. ⌜ r ≡ plainAnswer (creditorAnswer (now (content .entry))) ⌝ }
 {
-    answer_numbers(accounts::is_valid_creditor_identifier(content))
+    answer_numbers(checks::is_valid_creditor_identifier(content))
 }
 
 #[no_mangle]
 pub extern "C" fn partyid_eas_value(scheme: &[u8], content: &[u8]) -> PartyidAnswer
     ensures { λ r. ⌜ r ≡ plainAnswer (easAnswer (now (scheme .entry)) (now (content .entry))) ⌝ }
 {
-    answer_numbers(guard::eas_value(scheme, content))
+    answer_numbers(checks::eas_value(scheme, content))
 }
 
 #[no_mangle]

@@ -1,9 +1,9 @@
--- `partyid::checks::partyid_withdrawn` meets its contract.
+-- `partyid::checked::partyid_withdrawn` meets its contract.
 use mathlib.Core.Path.{ap, _∙_}
 use Rattle.partyid.specs.Plain.{plainCode}
 use borrow.Author.Needs.{needs}
-use Rattle.partyid.proofs.checks.partyid_withdrawn.Statement.{statement}
-use Rattle.partyid.proofs.checks.partyid_withdrawn.Tie as tie
+use Rattle.partyid.proofs.checked.partyid_withdrawn.Statement.{statement}
+use Rattle.partyid.proofs.checked.partyid_withdrawn.Tie as tie
 
 withdrawn-requires : tie.Need-withdrawn-requires
 withdrawn-requires c κs = search needs
