@@ -1,3 +1,3 @@
--- Laws of what is found in a content (Found), and that a check has one answer (One).
+-- Laws of what is found in a content (Found), and of answers (Laws).
 mod Found
-pub mod One
+pub mod Laws
