@@ -10,6 +10,7 @@ use borrow.Author.Tests.{leb-true}
 use lib.Dec.{leb}
 use lib.ListN.{length, replicate, length-map}
 use lib.Seq.{take-at}
+use Rattle.ascii.specs.Pick.{pick}
 use Rattle.answer.specs.declared.reason.Reason.{Reason}
 use Rattle.answer.specs.declared.reason.Reason.the-variants.{Long, Utf8}
 use Rattle.text.specs.Content.{Piece, Cell, Content, refused, content, contentFrom, contentOf, cells, cellsOf, bytesOf}
@@ -49,7 +50,7 @@ reason-on refused f = refl
 reason-on (content ps) f = refl
 
 reason-at : (f : List Piece → List Cell) (s : List ℕ) (t : Bool) → leb (length s) 1024 ≡ t → answer f s .reason ≡ readableOf s
-unfolding answer readableOf refusal
+unfolding answer readableOf refusal pick
 reason-at f s true e = rw e (reason-on (contentOf s) f)
 reason-at f s false e = rw e
 
@@ -74,7 +75,7 @@ space-sound w r = row-1 0x20 r (omega arith)
 module _ (f : List Piece → List Cell) where
   outcome-at : (s : List ℕ) (t : Bool) (c : Content) → leb (length s) 1024 ≡ t → contentOf s ≡ c
       → ((r : Reason) × (answer f s ≡ refusal r)) ⊎ Taken s
-  unfolding answer
+  unfolding answer pick
   outcome-at s false c e h = inl (Long, rw e)
   outcome-at s true refused e h = inl (Utf8, rw (e, h))
   outcome-at s true (content ps) e h = inr (record { short = leb-true (length s) 1024 e; points = ps; reads = h })

@@ -25,34 +25,34 @@ abbrev Good : List ℕ → Step → Type 0
 Good l (Point c n) = (1 ≤ n) × (n ≤ length l)
 Good l Refused = Unit {0}
 
-good-cond : (l : List ℕ) (t : Bool) (x y : Step) → Good l x → Good l y → Good l (pick t x y)
+good-pick : (l : List ℕ) (t : Bool) (x y : Step) → Good l x → Good l y → Good l (pick t x y)
 unfolding pick
-good-cond l true x y p q = p
-good-cond l false x y p q = q
+good-pick l true x y p q = p
+good-pick l false x y p q = q
 
 good-two : (a : ℕ) (l : List ℕ) → Good (a ∷ l) (two a l)
 unfolding two
 good-two a [] = tt
-good-two a (b ∷ l) = good-cond _ _ _ _ (omega arith) tt
+good-two a (b ∷ l) = good-pick _ _ _ _ (omega arith) tt
 
 good-three : (a low high : ℕ) (l : List ℕ) → Good (a ∷ l) (three a low high l)
 unfolding three
 good-three a low high [] = tt
 good-three a low high (b ∷ []) = tt
-good-three a low high (b ∷ c ∷ l) = good-cond _ _ _ _ (omega arith) tt
+good-three a low high (b ∷ c ∷ l) = good-pick _ _ _ _ (omega arith) tt
 
 good-four : (a low high : ℕ) (l : List ℕ) → Good (a ∷ l) (four a low high l)
 unfolding four
 good-four a low high [] = tt
 good-four a low high (b ∷ []) = tt
 good-four a low high (b ∷ c ∷ []) = tt
-good-four a low high (b ∷ c ∷ d ∷ l) = good-cond _ _ _ _ (omega arith) tt
+good-four a low high (b ∷ c ∷ d ∷ l) = good-pick _ _ _ _ (omega arith) tt
 
 good : (l : List ℕ) → Good l (stepOf l)
 unfolding stepOf
 good [] = tt
 good (a ∷ l) =
-    let g = good-cond (a ∷ l) in
+    let g = good-pick (a ∷ l) in
     g _ _ _ (omega arith)
     (g _ _ _ (good-two a l)
     (g _ _ _ (good-three a _ _ l)

@@ -6,14 +6,16 @@ use Prim.Native.Nat.{ℕ, _+_, _≤_, _<_}
 use native.Mathlib.Omega.{arith}
 use borrow.Author.Tests.{le-leb, lt-leb}
 use lib.ListN.{length, take, drop, set, replicate, length-append, length-drop, length-map}
-use lib.Seq.{paste, length-take-le}
+use lib.Seq.{length-take-le}
+use Rattle.ascii.specs.Pick.{pick}
+use Rattle.ascii.specs.Area.{put}
 use Rattle.text.specs.declared.utf8.Step.the-variants.{Point, Refused}
 use Rattle.text.specs.declared.area.Text.{Text}
 use Rattle.answer.specs.declared.reason.Reason.the-variants.{NoReason, Long, Utf8}
 use Rattle.text.specs.Utf8.{stepOf}
 use Rattle.text.specs.Content.{Piece, Cell, Content, refused, content, contentOf, cells}
 use Rattle.text.specs.Answer.{padded, kept, refusal, onContent, answer}
-use Rattle.text.proofs.Padded.{length-padded, padded-set, padded-paste}
+use Rattle.text.proofs.Padded.{length-padded, padded-set, padded-put}
 use Rattle.text.proofs.Modes.{space}
 use Rattle.text.proofs.Points.{rest, point-fits, at-refused, at-last, advance, texts, texts-cells, length-cells}
 
@@ -31,11 +33,11 @@ pub record State (f : List Piece → List Cell) (whole : Text) (s out : List ℕ
   pub left : onContent (rest s at) (λ ps. done ++ f ps) ≡ whole
 
 pub answer-short : (f : List Piece → List Cell) (s : List ℕ) → length s ≤ 1024 → onContent (contentOf s) f ≡ answer f s
-unfolding answer
+unfolding answer pick
 answer-short f s h = rw (le-leb (length s) 1024 h)
 
 pub answer-long : (f : List Piece → List Cell) (s : List ℕ) → 1024 < length s → refusal Long ≡ answer f s
-unfolding answer
+unfolding answer pick
 answer-long f s h = rw (lt-leb (length s) 1024 h)
 
 same-content : (c : Content) (f g : List Piece → List Cell) → ((ps : List Piece) → f ps ≡ g ps) → onContent c f ≡ onContent c g
@@ -89,34 +91,34 @@ module _ {f : List Piece → List Cell} {whole : Text} {s out : List ℕ} {n at 
         }
 
     -- a point that is kept, behind pre
-    pub put : (g : List Piece → List Cell) (pre : List Cell) (mid : List ℕ) (m : ℕ)
+    keep : (g : List Piece → List Cell) (pre : List Cell) (mid : List ℕ) (m : ℕ)
         → ((ps : List Piece) → f (pieceAt s at c k ∷ ps) ≡ pre ++ cells at (take k (drop at s)) ++ g ps)
         → length (i .done ++ pre) ≡ m → m ≤ at → mid ≡ padded (texts (i .done ++ pre))
-        → State g whole s (paste mid m (drop at s) k) (m + k) (at + k)
-    put g pre mid m h p r q =
+        → State g whole s (put mid m (take k (drop at s))) (m + k) (at + k)
+    keep g pre mid m h p r q =
         let z = fits in
         let b = take k (drop at s) in
-        let t : k ≤ length (drop at s) = simp length-drop (omega arith) in
+        let t : length b ≡ k = length-take-le k (drop at s) (simp length-drop (omega arith)) in
         record {
           done = i .done ++ pre ++ cells at b;
           place = z .1;
           room = omega arith;
           short = i .short;
-          count = simp (length-append, length-cells, length-take-le k (drop at s) t) (let w = simp length-append at p in omega arith);
+          count = simp (length-append, length-cells, t) (let w = simp length-append at p in omega arith);
           area =
               rw q
-              (padded-paste (texts (i .done ++ pre)) (drop at s) m k (simp length-map (sym p)) (omega arith) t
+              (padded-put (texts (i .done ++ pre)) m b (simp length-map (sym p)) (omega arith)
               ∙ ap padded (sym (map-append (λ (x : Cell). x .byte) (i .done ++ pre) (cells at b) ∙ ap (λ (l : List ℕ). texts (i .done ++ pre) ++ l) (texts-cells at b))));
           left = advance s at c k _ _ e (λ ps. ap (λ (l : List Cell). i .done ++ l) (h ps) ∙ simp append-assoc) ∙ i .left;
         }
 
     -- the same, where nothing or a space comes before it, for the area as a call has left it
-    pub add : (g : List Piece → List Cell) (new : List ℕ) → new ≡ paste out n (drop at s) k
+    pub add : (g : List Piece → List Cell) (new : List ℕ) → new ≡ put out n (take k (drop at s))
         → ((ps : List Piece) → f (pieceAt s at c k ∷ ps) ≡ cells at (take k (drop at s)) ++ g ps)
         → State g whole s new (n + k) (at + k)
-    add g new q h = rw q (put g [] out n h (rw append-nil (i .count)) (i .room) (rw append-nil (i .area)))
+    add g new q h = rw q (keep g [] out n h (rw append-nil (i .count)) (i .room) (rw append-nil (i .area)))
 
-    pub add-spaced : (g : List Piece → List Cell) (o : ℕ) (new : List ℕ) → n < at → new ≡ paste (set out n 0x20) (n + 1) (drop at s) k
+    pub add-spaced : (g : List Piece → List Cell) (o : ℕ) (new : List ℕ) → n < at → new ≡ put (set out n 0x20) (n + 1) (take k (drop at s))
         → ((ps : List Piece) → f (pieceAt s at c k ∷ ps) ≡ space o ∷ cells at (take k (drop at s)) ++ g ps)
         → State g whole s new (n + 1 + k) (at + k)
     add-spaced g o new r q h =
@@ -125,5 +127,5 @@ module _ {f : List Piece → List Cell} {whole : Text} {s out : List ℕ} {n at 
         let w = i .place in
         let x = i .short in
         rw q
-        (put g (space o ∷ []) (set out n 0x20) (n + 1) h v (omega arith)
+        (keep g (space o ∷ []) (set out n 0x20) (n + 1) h v (omega arith)
         (rw (i .area, padded-set (texts (i .done)) n 0x20 u (omega arith)) (ap padded (sym (map-append (λ (y : Cell). y .byte) (i .done) (space o ∷ []))))))

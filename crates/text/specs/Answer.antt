@@ -1,9 +1,9 @@
 -- Which contents can be read, and what normalising and stripping hand back.
 use Prim.Native.Nat.{ℕ, _-_}
 use mathlib.Core.List.{List, [], _++_, map}
-use mathlib.Core.Bool.{cond}
 use lib.Dec.{leb}
 use lib.ListN.{length, take, replicate}
+use Rattle.ascii.specs.Pick.{pick}
 use Rattle.text.specs.declared.area.Text.{Text}
 use Rattle.text.specs.declared.area.Kept.{Kept}
 use Rattle.text.specs.declared.reading.Reading.{Reading}
@@ -19,7 +19,7 @@ whyRefused (content ps) = NoReason
 
 -- why a content can't be read: it is too long, or else not well-formed
 unfoldable pub readableOf : List ℕ → Reason
-readableOf s = cond (leb (length s) 1024) (whyRefused (contentOf s)) Long
+readableOf s = pick (leb (length s) 1024) (whyRefused (contentOf s)) Long
 
 -- a list in an area of 1,024 numbers, with zeros after it
 unfoldable pub padded : List ℕ → List ℕ
@@ -36,7 +36,7 @@ onContent refused f = refusal Utf8
 onContent (content ps) f = kept (f ps)
 
 unfoldable pub answer : (List Piece → List Cell) → List ℕ → Text
-answer f s = cond (leb (length s) 1024) (onContent (contentOf s) f) (refusal Long)
+answer f s = pick (leb (length s) 1024) (onContent (contentOf s) f) (refusal Long)
 
 unfoldable pub normalText : List ℕ → Text
 normalText s = answer normal s
