@@ -11,8 +11,7 @@ use lib.ListN.{length, getD, take, drop, drop-of-length-le, length-drop}
 use lib.Seq.{drop-cons}
 use Rattle.ascii.specs.Pick.{pick}
 use Rattle.ascii.specs.Class.{all}
-use Rattle.text.specs.Content.{Piece}
-use Rattle.text.specs.Neat.{codes}
+use Rattle.text.specs.Content.{Piece, codes}
 use Rattle.forms.specs.declared.form.Fault.{Fault}
 use Rattle.forms.specs.declared.form.Fault.the-variants.{Fits, At}
 use Rattle.codice.specs.Integer.{isEmpty, past, isSign, unsigned}

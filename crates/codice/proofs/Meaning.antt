@@ -13,8 +13,7 @@ use Rattle.ascii.specs.Pick.{pick}
 use Rattle.ascii.specs.Class.{isDigit, all}
 use Rattle.ascii.proofs.Tests.{and-true, false-true}
 use Rattle.text.specs.White.{isWhite}
-use Rattle.text.specs.Content.{Piece, refused, content, contentOf}
-use Rattle.text.specs.Neat.{codes}
+use Rattle.text.specs.Content.{Piece, refused, content, contentOf, codes}
 use Rattle.forms.specs.declared.form.Fault.the-variants.{Length}
 use Rattle.forms.specs.Form.{isFit}
 use Rattle.forms.proofs.Follows.{fit-first}

@@ -13,8 +13,7 @@ use Rattle.forms.specs.declared.form.Fault.{Fault}
 use Rattle.forms.specs.declared.form.Fault.the-variants.{Fits, Length, At}
 use Rattle.text.specs.declared.utf8.Step.the-variants.{Point, Refused}
 use Rattle.text.specs.Utf8.{stepOf}
-use Rattle.text.specs.Content.{Piece, Content, refused, content, withFirst, contentOf}
-use Rattle.text.specs.Neat.{codes}
+use Rattle.text.specs.Content.{Piece, Content, refused, content, withFirst, contentOf, codes}
 use Rattle.text.proofs.Points.{rest, point-fits, at-refused, at-last, unroll-list}
 use Rattle.codice.specs.Integer.{integerText}
 use Rattle.codice.specs.Codice.{groupsOf16, failing, codiceOf, codiceFault}

@@ -6,8 +6,7 @@ use lib.Dec.{eqb}
 use lib.ListN.{length, getD, take, drop}
 use Rattle.ascii.specs.Pick.{pick}
 use Rattle.ascii.specs.Class.{isDigit, isLetter, all}
-use Rattle.text.specs.Content.{Piece, Content, refused, content, contentOf}
-use Rattle.text.specs.Neat.{codes}
+use Rattle.text.specs.Content.{Piece, Content, refused, content, contentOf, codes}
 use Rattle.forms.specs.declared.form.Fault.{Fault}
 use Rattle.forms.specs.declared.form.Fault.the-variants.{Fits, Length, At}
 use Rattle.codice.specs.Integer.{integerText}

@@ -3,8 +3,7 @@ use mathlib.Core.Path.{_≡_}
 use mathlib.Core.List.{List}
 use Prim.Native.Nat.{ℕ, _≤_}
 use lib.ListN.{length, take}
-use Rattle.text.specs.Content.{Piece, content, contentOf}
-use Rattle.text.specs.Neat.{codes}
+use Rattle.text.specs.Content.{Piece, content, contentOf, codes}
 use Rattle.forms.specs.declared.form.Fault.{Fault}
 use Rattle.forms.specs.declared.form.Fault.the-variants.{Length}
 use Rattle.codice.specs.declared.points.Count.{Count}

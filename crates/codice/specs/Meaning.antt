@@ -4,8 +4,7 @@ use mathlib.Core.List.{List, [], _∷_}
 use lib.Dec.{eqb}
 use lib.ListN.{length}
 use Rattle.ascii.specs.Pick.{pick}
-use Rattle.text.specs.Content.{Piece}
-use Rattle.text.specs.Neat.{codes}
+use Rattle.text.specs.Content.{Piece, codes}
 use Rattle.codice.specs.Integer.{integerText}
 use Rattle.codice.specs.Codice.{Group, part, groupsOf16}
 

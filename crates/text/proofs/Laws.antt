@@ -13,10 +13,10 @@ use lib.Seq.{take-at}
 use Rattle.ascii.specs.Pick.{pick}
 use Rattle.answer.specs.declared.reason.Reason.{Reason}
 use Rattle.answer.specs.declared.reason.Reason.the-variants.{Long, Utf8}
-use Rattle.text.specs.Content.{Piece, Cell, Content, refused, content, contentFrom, contentOf, cells, cellsOf, bytesOf}
+use Rattle.text.specs.Content.{Piece, Cell, Content, refused, content, contentFrom, contentOf, cells, cellsOf, bytesOf, codes}
 use Rattle.text.specs.Words.{words, spaceAfter, spaced, closed, normal, stripped}
 use Rattle.text.specs.Answer.{whyRefused, readableOf, padded, kept, refusal, onContent, answer, normalText, strippedText, textOf}
-use Rattle.text.specs.Neat.{All, Dark, Neat, codes, itself}
+use Rattle.text.specs.Neat.{All, Dark, Neat, itself}
 use Rattle.text.proofs.Rows.{row-1}
 use Rattle.text.proofs.Padded.{length-padded}
 use Rattle.text.proofs.Points.{texts, texts-cells, length-cells}
@@ -131,9 +131,6 @@ module _ (f : List Piece → List Cell) (g : List Piece → List Piece) (k : Pic
   unfolding refusal
   area-whole s = ⊎-elim (λ r. rw (r .1) (length-padded [] (omega arith))) (λ t. area-taken s t) (outcome f s)
 
-  part-fits : (s : List ℕ) → answer f s .len ≤ length (answer f s .bytes)
-  part-fits s = let a = area-whole s in let h = len-fits s in omega arith
-
   -- the text is read as the points that were picked
   again : (s : List ℕ) (t : Taken s) → contentOf (bytesOf (g (t .points))) ≡ content (placed 0 (g (t .points)))
   unfolding contentOf
@@ -211,10 +208,6 @@ text-fits s = len-fits normal tidy picks-normal s
 pub text-area : (s : List ℕ) → length (normalText s .bytes) ≡ 1024
 unfolding normalText
 text-area s = area-whole normal tidy picks-normal s
-
-pub text-part : (s : List ℕ) → normalText s .len ≤ length (normalText s .bytes)
-unfolding normalText
-text-part s = part-fits normal tidy picks-normal s
 
 -- it is never longer
 pub never-longer : (s : List ℕ) → length (textOf (normalText s)) ≤ length s
@@ -297,10 +290,6 @@ strip-fits s = len-fits stripped dense picks-stripped s
 pub strip-area : (s : List ℕ) → length (strippedText s .bytes) ≡ 1024
 unfolding strippedText
 strip-area s = area-whole stripped dense picks-stripped s
-
-pub strip-part : (s : List ℕ) → strippedText s .len ≤ length (strippedText s .bytes)
-unfolding strippedText
-strip-part s = part-fits stripped dense picks-stripped s
 
 pub strip-never-longer : (s : List ℕ) → length (textOf (strippedText s)) ≤ length s
 unfolding strippedText

@@ -121,7 +121,7 @@ told-first o l r p (content ps) s e f t =
     }
 
 told-step : (o a : ℕ) (l : List ℕ) (x : Step) → x ≡ stepOf (a ∷ l) → ((k : ℕ) → Told (suc o + k) (drop k l) (contentFrom (suc o) k l))
-    → Told o (a ∷ l) (onStep x (λ c n. withFirst (record { at = o; code = c; bytes = take n (a ∷ l) }) (contentFrom (suc o) (n - 1) l)) refused)
+    → Told o (a ∷ l) (onStep x (λ c n. withFirst (record { at = o; code = c; bytes = take n (a ∷ l) }) (contentFrom (suc o) (n - 1) l)))
 told-step o a l Refused e ih = tt
 told-step o a l (Point c zero) e ih = absurd (let h = point-good (a ∷ l) c zero e in omega arith)
 told-step o a l (Point c (suc m)) e ih =
