@@ -32,18 +32,6 @@ module _ (p : ℕ → Bool) (s : List ℕ) (i : ℕ) where
   unfolding past
   past-end h = rw (drop-of-length-le s h)
 
-  pub all-more : i < length s → p (getD s i 0) ≡ true → all p (drop i s) ≡ all p (drop (i + 1) s)
-  unfolding all
-  all-more h t = rw (add-one i, drop-cons s i 0 h, t)
-
-  pub all-here : i < length s → p (getD s i 0) ≡ false → all p (drop i s) ≡ false
-  unfolding all
-  all-here h t = rw (drop-cons s i 0 h, t)
-
-  pub all-end : length s ≤ i → all p (drop i s) ≡ true
-  unfolding all
-  all-end h = rw (drop-of-length-le s h)
-
 -- a sign at a place
 module _ (s : List ℕ) (i : ℕ) where
   pub sign-none : length s ≤ i → unsigned (drop i s) ≡ drop i s

@@ -13,10 +13,10 @@ use Rattle.ascii.specs.Pick.{pick}
 use Rattle.ascii.specs.Class.{isDigit, all}
 use Rattle.ascii.proofs.Tests.{and-true, false-true}
 use Rattle.text.specs.White.{isWhite}
-use Rattle.text.specs.Content.{Piece, refused, content, contentOf, codes}
-use Rattle.forms.specs.declared.form.Fault.the-variants.{Length}
+use Rattle.text.specs.Content.{Piece, malformed, content, contentOf, codes}
+use Rattle.forms.specs.declared.form.Fault.the-variants.{Length, At}
 use Rattle.forms.specs.Form.{isFit}
-use Rattle.forms.proofs.Follows.{fit-first}
+use Rattle.forms.proofs.Follows.{fit-pick}
 use Rattle.codice.specs.Integer.{isEmpty, past, trimEnd, isSign, unsigned, oneOrMoreDigits, integerText}
 use Rattle.codice.specs.Codice.{Group, part, groupsOf16, groupsOf11, places, failing, codiceOf, codiceFault}
 use Rattle.codice.specs.Meaning.{allPass, isCodice}
@@ -28,7 +28,7 @@ unfolding failing allPass
 fit-passes [] ps = refl
 fit-passes (g ∷ gs) ps =
     let t = g .test (codes (part g ps)) in
-    fit-first t (failing gs ps) (getD (places ps) (g .first) 0) ∙ ap (λ (x : Bool). t && x) (fit-passes gs ps)
+    fit-pick t (failing gs ps) (At (getD (places ps) (g .first) 0)) refl ∙ ap (λ (x : Bool). t && x) (fit-passes gs ps)
 
 -- 11 points are one group
 whole : (ps : List Piece) → length ps ≡ 11 → allPass groupsOf11 ps ≡ integerText (codes ps)
@@ -47,9 +47,9 @@ pub codice-fits : (s : List ℕ) (ps : List Piece) → contentOf s ≡ content p
 unfolding codiceFault codiceOf isCodice
 codice-fits s ps e = rw e (by-count ps (eqb (length ps) 16) (eqb (length ps) 11) refl)
 
-pub codice-refused : (s : List ℕ) → contentOf s ≡ refused → codiceFault s ≡ Length
+pub codice-malformed : (s : List ℕ) → contentOf s ≡ malformed → codiceFault s ≡ Length
 unfolding codiceFault codiceOf
-codice-refused s e = rw e
+codice-malformed s e = rw e
 
 -- ---- integer texts
 

@@ -7,35 +7,35 @@ use native.Mathlib.Numerals.{add-one}
 use native.Mathlib.Omega.{arith}
 use borrow.Author.Tests.{eq-eqb, ne-eqb}
 use lib.ListN.{length, take, drop, set, getD, length-append, length-set, length-map}
-use lib.Seq.{take-suc-set, length-take-le, take-all, getD-take, drop-drop}
+use lib.Seq.{take-suc-set, length-take-le, take-all, getD-take}
 use Rattle.ascii.specs.Pick.{pick}
 use Rattle.forms.specs.declared.form.Fault.{Fault}
 use Rattle.forms.specs.declared.form.Fault.the-variants.{Fits, Length, At}
 use Rattle.text.specs.declared.utf8.Step.the-variants.{Point, Refused}
 use Rattle.text.specs.Utf8.{stepOf}
-use Rattle.text.specs.Content.{Piece, Content, refused, content, withFirst, contentOf, codes}
-use Rattle.text.proofs.Points.{rest, point-fits, at-refused, at-last, unroll-list}
+use Rattle.text.specs.Content.{Piece, Content, malformed, content, withFirst, contentOf, codes}
+use Rattle.text.proofs.Points.{rest, point-fits, at-refused, at-last, unroll}
 use Rattle.codice.specs.Integer.{integerText}
 use Rattle.codice.specs.Codice.{groupsOf16, failing, codiceOf, codiceFault}
 use Rattle.codice.specs.Inner.{Listed, Stand, Answered}
 
 -- points in front of those that are left
 abbrev join : List Piece → Content → Content
-join pre refused = refused
+join pre malformed = malformed
 join pre (content ps) = content (pre ++ ps)
 
 join-nil : (y : Content) → join [] y ≡ y
-join-nil refused = refl
+join-nil malformed = refl
 join-nil (content ps) = refl
 
 join-more : (pre : List Piece) (p : Piece) (y : Content) → join (pre ++ p ∷ []) y ≡ join pre (withFirst p y)
-join-more pre p refused = refl
+join-more pre p malformed = refl
 join-more pre p (content ps) = ap content (simp append-assoc)
 
 -- more than 16 points are of no number that fits
 many : (pre : List Piece) (p : Piece) (y : Content) → length pre ≡ 16 → codiceOf (join pre (withFirst p y)) ≡ Length
 unfolding codiceOf pick
-many pre p refused h = refl
+many pre p malformed h = refl
 many pre p (content ps) h =
     let e : length (pre ++ p ∷ ps) ≡ 17 + length ps = simp length-append (omega arith) in
     rw (ne-eqb (length (pre ++ p ∷ ps)) 16 (λ q. omega arith), ne-eqb (length (pre ++ p ∷ ps)) 11 (λ q. omega arith))
@@ -88,15 +88,13 @@ module _ (s cs ats : List ℕ) (n at : ℕ) (w : Walk s cs ats n at) where
 
   module _ (c k : ℕ) (e : Point c k ≡ stepOf (drop at s)) where
     pub fits : (1 ≤ k) × (at + k ≤ length s)
-    fits = let h = point-fits s at c k e in let p = w .inside in (h .0, omega arith)
+    fits = point-fits s at (w .inside) c k e
 
     abbrev piece : Piece
     piece = record { at = at; code = c; bytes = take k (drop at s) }
 
     split : join (w .done) (withFirst piece (rest s (at + k))) ≡ contentOf s
-    split =
-        let u : rest s at ≡ withFirst piece (rest s (at + k)) = rw (← drop-drop k at s) (unroll-list at c k (drop at s) e) in
-        ap (join (w .done)) (sym u) ∙ w .left
+    split = ap (join (w .done)) (sym (unroll s at c k e)) ∙ w .left
 
     pub over : n ≡ 16 → codiceFault s ≡ Length
     unfolding codiceFault

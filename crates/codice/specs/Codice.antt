@@ -6,7 +6,7 @@ use lib.Dec.{eqb}
 use lib.ListN.{length, getD, take, drop}
 use Rattle.ascii.specs.Pick.{pick}
 use Rattle.ascii.specs.Class.{isDigit, isLetter, all}
-use Rattle.text.specs.Content.{Piece, Content, refused, content, contentOf, codes}
+use Rattle.text.specs.Content.{Piece, Content, malformed, content, contentOf, codes}
 use Rattle.forms.specs.declared.form.Fault.{Fault}
 use Rattle.forms.specs.declared.form.Fault.the-variants.{Fits, Length, At}
 use Rattle.codice.specs.Integer.{integerText}
@@ -59,7 +59,7 @@ failing [] ps = Fits
 failing (g ∷ gs) ps = pick (g .test (codes (part g ps))) (failing gs ps) (At (getD (places ps) (g .first) 0))
 
 unfoldable pub codiceOf : Content → Fault
-codiceOf refused = Length
+codiceOf malformed = Length
 codiceOf (content ps) =
     pick (eqb (length ps) 16) (failing groupsOf16 ps)
     (pick (eqb (length ps) 11) (failing groupsOf11 ps)

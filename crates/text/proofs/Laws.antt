@@ -13,7 +13,7 @@ use lib.Seq.{take-at}
 use Rattle.ascii.specs.Pick.{pick}
 use Rattle.answer.specs.declared.reason.Reason.{Reason}
 use Rattle.answer.specs.declared.reason.Reason.the-variants.{Long, Utf8}
-use Rattle.text.specs.Content.{Piece, Cell, Content, refused, content, contentFrom, contentOf, cells, cellsOf, bytesOf, codes}
+use Rattle.text.specs.Content.{Piece, Cell, Content, malformed, content, contentFrom, contentOf, cells, cellsOf, bytesOf, codes}
 use Rattle.text.specs.Words.{words, spaceAfter, spaced, closed, normal, stripped}
 use Rattle.text.specs.Answer.{whyRefused, readableOf, padded, kept, refusal, onContent, answer, normalText, strippedText, textOf}
 use Rattle.text.specs.Neat.{All, Dark, Neat, itself}
@@ -36,7 +36,7 @@ text-kept : (cs : List Cell) → textOf (kept cs) ≡ texts cs
 unfolding kept padded
 text-kept cs = take-at (texts cs) (replicate (1024 - length (texts cs)) 0) (length cs) (simp length-map)
 
--- a content that is neither too long nor refused
+-- a content that is neither too long nor malformed
 pub record Taken (s : List ℕ) : Type 0 where
   pub short : length s ≤ 1024
   pub points : List Piece
@@ -46,7 +46,7 @@ pub record Taken (s : List ℕ) : Type 0 where
 
 reason-on : (c : Content) (f : List Piece → List Cell) → onContent c f .reason ≡ whyRefused c
 unfolding kept refusal
-reason-on refused f = refl
+reason-on malformed f = refl
 reason-on (content ps) f = refl
 
 reason-at : (f : List Piece → List Cell) (s : List ℕ) (t : Bool) → leb (length s) 1024 ≡ t → answer f s .reason ≡ readableOf s
@@ -77,7 +77,7 @@ module _ (f : List Piece → List Cell) where
       → ((r : Reason) × (answer f s ≡ refusal r)) ⊎ Taken s
   unfolding answer pick
   outcome-at s false c e h = inl (Long, rw e)
-  outcome-at s true refused e h = inl (Utf8, rw (e, h))
+  outcome-at s true malformed e h = inl (Utf8, rw (e, h))
   outcome-at s true (content ps) e h = inr (record { short = leb-true (length s) 1024 e; points = ps; reads = h })
 
   -- a content is refused, or it is taken

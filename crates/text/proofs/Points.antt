@@ -16,7 +16,7 @@ use Rattle.ascii.specs.Class.{all}
 use Rattle.ascii.proofs.Class.{all-first, all-rest}
 use Rattle.answer.specs.declared.reason.Reason.the-variants.{NoReason}
 use Rattle.text.specs.Utf8.{two, three, four, stepOf}
-use Rattle.text.specs.Content.{Piece, Cell, Content, refused, content, withFirst, contentFrom, cells}
+use Rattle.text.specs.Content.{Piece, Cell, Content, malformed, content, withFirst, contentFrom, cells}
 use Rattle.text.specs.Answer.{whyRefused, onContent}
 use Rattle.text.proofs.Rows.{row-1}
 
@@ -83,7 +83,7 @@ unroll-list o c (suc m) (a ∷ l) e =
     rw (← e, f, skip (suc o) m l, suc-add, ← add-suc)
 
 unread-first : (p : Piece) (c : Content) → whyRefused c ≡ whyRefused (withFirst p c)
-unread-first p refused = refl
+unread-first p malformed = refl
 unread-first p (content ps) = refl
 
 -- a byte that is a code point by itself
@@ -102,17 +102,17 @@ module _ (s : List ℕ) (at : ℕ) where
   abbrev pub rest : Content
   rest = contentFrom at 0 (drop at s)
 
-  pub point-fits : (c n : ℕ) → Point c n ≡ stepOf (drop at s) → (1 ≤ n) × (n ≤ length s - at)
-  point-fits c n e = let h = point-good (drop at s) c n e in (h .0, rw length-drop at (h .1))
+  pub point-fits : at ≤ length s → (c n : ℕ) → Point c n ≡ stepOf (drop at s) → (1 ≤ n) × (at + n ≤ length s)
+  point-fits p c n e = let h = point-good (drop at s) c n e in let k = rw length-drop at (h .1) in (h .0, omega arith)
 
-  unroll : (c n : ℕ) → Point c n ≡ stepOf (drop at s)
+  pub unroll : (c n : ℕ) → Point c n ≡ stepOf (drop at s)
       → rest ≡ withFirst (record { at = at; code = c; bytes = take n (drop at s) }) (contentFrom (at + n) 0 (drop (at + n) s))
   unroll c n e = rw (← drop-drop n at s) (unroll-list at c n (drop at s) e)
 
   pub unread-on : (c n : ℕ) → Point c n ≡ stepOf (drop at s) → whyRefused (contentFrom (at + n) 0 (drop (at + n) s)) ≡ whyRefused rest
   unread-on c n e = rw (unroll c n e) (unread-first _ (contentFrom (at + n) 0 (drop (at + n) s)))
 
-  pub at-refused : at < length s → Refused ≡ stepOf (drop at s) → rest ≡ refused
+  pub at-refused : at < length s → Refused ≡ stepOf (drop at s) → rest ≡ malformed
   unfolding contentFrom
   at-refused h e = rw (drop-cons s at 0 h, ← (e ∙ ap stepOf (drop-cons s at 0 h)))
 
@@ -122,7 +122,7 @@ module _ (s : List ℕ) (at : ℕ) where
 
 onContent-first : (p : Piece) (c : Content) (f g : List Piece → List Cell) → ((ps : List Piece) → f (p ∷ ps) ≡ g ps)
     → onContent (withFirst p c) f ≡ onContent c g
-onContent-first p refused f g e = refl
+onContent-first p malformed f g e = refl
 onContent-first p (content ps) f g e = rw (e ps)
 
 -- one turn: the point that was read goes from what is left to what is done

@@ -12,7 +12,7 @@ use Rattle.text.specs.declared.utf8.Step.{Step}
 use Rattle.text.specs.declared.utf8.Step.the-variants.{Point, Refused}
 use Rattle.ascii.specs.Pick.{pick}
 use Rattle.text.specs.Utf8.{two, three, four, stepOf}
-use Rattle.text.specs.Content.{Piece, Content, refused, content, withFirst, onStep, contentFrom, contentOf, bytesOf}
+use Rattle.text.specs.Content.{Piece, Content, malformed, content, withFirst, onStep, contentFrom, contentOf, bytesOf}
 use Rattle.text.specs.Neat.{All}
 use Rattle.text.proofs.Points.{point-good, unroll-list}
 
@@ -106,13 +106,13 @@ pub record Read (o : ℕ) (l : List ℕ) (ps : List Piece) : Type 0 where
   pub places : placed o ps ≡ ps
 
 abbrev Told : ℕ → List ℕ → Content → Type 0
-Told o l refused = Unit {0}
+Told o l malformed = Unit {0}
 Told o l (content ps) = Read o l ps
 
 told-first : (o : ℕ) (l r : List ℕ) (p : Piece) (c : Content) → Sound p → p .bytes ++ r ≡ l → p .at ≡ o
     → Told (o + length (p .bytes)) r c → Told o l (withFirst p c)
 unfolding bytesOf
-told-first o l r p refused s e f t = tt
+told-first o l r p malformed s e f t = tt
 told-first o l r p (content ps) s e f t =
     record {
       sound = (s, t .sound);

@@ -13,7 +13,7 @@ use Rattle.text.specs.declared.utf8.Step.the-variants.{Point, Refused}
 use Rattle.text.specs.declared.area.Text.{Text}
 use Rattle.answer.specs.declared.reason.Reason.the-variants.{NoReason, Long, Utf8}
 use Rattle.text.specs.Utf8.{stepOf}
-use Rattle.text.specs.Content.{Piece, Cell, Content, refused, content, contentOf, cells}
+use Rattle.text.specs.Content.{Piece, Cell, Content, malformed, content, contentOf, cells}
 use Rattle.text.specs.Answer.{padded, kept, refusal, onContent, answer}
 use Rattle.text.proofs.Padded.{length-padded, padded-set, padded-put}
 use Rattle.text.proofs.Modes.{space}
@@ -41,7 +41,7 @@ unfolding answer pick
 answer-long f s h = rw (lt-leb (length s) 1024 h)
 
 same-content : (c : Content) (f g : List Piece → List Cell) → ((ps : List Piece) → f ps ≡ g ps) → onContent c f ≡ onContent c g
-same-content refused f g e = refl
+same-content malformed f g e = refl
 same-content (content ps) f g e = ap kept (e ps)
 
 pub begin : (f g : List Piece → List Cell) (s : List ℕ) → ((ps : List Piece) → f ps ≡ g ps) → length s ≤ 1024
@@ -74,7 +74,7 @@ module _ {f : List Piece → List Cell} {whole : Text} {s out : List ℕ} {n at 
 
   module _ (c k : ℕ) (e : Point c k ≡ stepOf (drop at s)) where
     pub fits : (1 ≤ k) × (at + k ≤ length s)
-    fits = let h = point-fits s at c k e in let p = i .place in (h .0, omega arith)
+    fits = point-fits s at (i .place) c k e
 
     -- a point that is passed over
     pub pass : (g : List Piece → List Cell) → ((ps : List Piece) → f (pieceAt s at c k ∷ ps) ≡ g ps) → State g whole s out n (at + k)

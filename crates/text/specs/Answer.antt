@@ -10,11 +10,11 @@ use Rattle.text.specs.declared.reading.Reading.{Reading}
 use Rattle.text.specs.declared.reading.Reading.the-variants.{AsItStands, Normalised, Stripped}
 use Rattle.answer.specs.declared.reason.Reason.{Reason}
 use Rattle.answer.specs.declared.reason.Reason.the-variants.{NoReason, Long, Utf8}
-use Rattle.text.specs.Content.{Content, refused, content, contentOf, Cell, Piece}
+use Rattle.text.specs.Content.{Content, malformed, content, contentOf, Cell, Piece}
 use Rattle.text.specs.Words.{normal, stripped}
 
 abbrev pub whyRefused : Content → Reason
-whyRefused refused = Utf8
+whyRefused malformed = Utf8
 whyRefused (content ps) = NoReason
 
 -- why a content can't be read: it is too long, or else not well-formed
@@ -32,7 +32,7 @@ unfoldable pub refusal : Reason → Text
 refusal r = record { reason = r; len = 0; bytes = padded [] }
 
 abbrev pub onContent : Content → (List Piece → List Cell) → Text
-onContent refused f = refusal Utf8
+onContent malformed f = refusal Utf8
 onContent (content ps) f = kept (f ps)
 
 unfoldable pub answer : (List Piece → List Cell) → List ℕ → Text

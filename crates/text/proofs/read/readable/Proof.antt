@@ -45,8 +45,8 @@ S c = now (At c .before .before .before .before .before .args .s)
 read : (c : tie.After-known-told Inv-loop μ-loop) → Point (c .before .k .given .0 .0) (c .before .k .given .0 .1 .0) ≡ stepOf (drop (At c .loop .at) (S c))
 read c = sym (c .before .k .given .1) ∙ c .before .before .before .next-point .ensures
 
-fit : (c : tie.After-known-told Inv-loop μ-loop) → (1 ≤ c .before .k .given .0 .1 .0) × (c .before .k .given .0 .1 .0 ≤ length (S c) - At c .loop .at)
-fit c = point-fits (S c) (At c .loop .at) _ _ (read c)
+fit : (c : tie.After-known-told Inv-loop μ-loop) → (1 ≤ c .before .k .given .0 .1 .0) × (At c .loop .at + c .before .k .given .0 .1 .0 ≤ length (S c))
+fit c = point-fits (S c) (At c .loop .at) (At c .loop .inv .0) _ _ (read c)
 
 returns : tie.Need-returns Inv-loop μ-loop
 returns c = too-long _ (omega arith)
