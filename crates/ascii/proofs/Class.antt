@@ -1,12 +1,14 @@
 -- The classes as bounds, and lists whose every entry passes a test. Assumes nothing.
 use mathlib.Core.Path.{_≡_, refl}
-use mathlib.Core.Bool.{Bool, true, false, and-false}
+use mathlib.Core.Bool.{Bool, true, false, _&&_, and-false}
 use mathlib.Core.List.{List, [], _∷_, _++_}
-use Prim.Native.Nat.{ℕ, zero, suc, _-_, _≤_, _<_}
+use Prim.Native.Nat.{ℕ, zero, suc, _+_, _-_, _≤_, _<_}
+use native.Mathlib.Numerals.{add-one}
 use native.Mathlib.Omega.{arith}
 use borrow.Author.Tests.{le-leb, lt-leb, leb-true}
 use lib.Dec.{leb}
-use lib.ListN.{length, getD, take, drop}
+use lib.ListN.{length, getD, take, drop, drop-of-length-le}
+use lib.Seq.{drop-cons}
 use Rattle.ascii.specs.Class.{within, isDigit, all}
 use Rattle.ascii.proofs.Tests.{and-true, true-and}
 
@@ -75,3 +77,12 @@ module _ (p : ℕ → Bool) where
   pub all-append : (s t : List ℕ) → all p s ≡ true → all p t ≡ true → all p (s ++ t) ≡ true
   all-append [] t e f = f
   all-append (b ∷ s) t e f = all-cons b (s ++ t) (all-first b s e) (all-append s t (all-rest b s e) f)
+
+  -- a turn of a loop over a list, and its end
+  pub all-next : (s : List ℕ) (i : ℕ) → i < length s → all p (drop i s) ≡ p (getD s i 0) && all p (drop (i + 1) s)
+  unfolding all
+  all-next s i h = rw (add-one i, drop-cons s i 0 h)
+
+  pub all-end : (s : List ℕ) (i : ℕ) → length s ≤ i → all p (drop i s) ≡ true
+  unfolding all
+  all-end s i h = rw (drop-of-length-le s h)

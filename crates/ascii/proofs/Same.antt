@@ -9,7 +9,7 @@ use lib.Dec.{eqb}
 use lib.ListN.{length, getD, drop, drop-of-length-le}
 use lib.Seq.{drop-cons}
 use Rattle.ascii.specs.Written.{sameBytes}
-use Rattle.ascii.proofs.Tests.{and-true, true-and, not-true, false-true}
+use Rattle.ascii.proofs.Tests.{and-true, not-true, false-true}
 
 pub bytes-eq : (s t : List ℕ) → sameBytes s t ≡ true → s ≡ t
 bytes-eq [] [] e = refl
@@ -20,13 +20,6 @@ bytes-eq (a ∷ s) (b ∷ t) e =
     let x : a ≡ b = eqb-true a b (p .0) in
     let y : s ≡ t = bytes-eq s t (p .1) in
     cc
-
-pub eq-bytes : (s t : List ℕ) → s ≡ t → sameBytes s t ≡ true
-eq-bytes s t e = rw e (self t)
-  where
-    self : (t : List ℕ) → sameBytes t t ≡ true
-    self [] = refl
-    self (b ∷ t) = true-and (eqb b b) (sameBytes t t) (eq-eqb b b refl) (self t)
 
 pub same-length : (s t : List ℕ) → (length s ≡ length t → ⊥) → sameBytes s t ≡ false
 same-length s t h = not-true (sameBytes s t) (λ e. h (ap length (bytes-eq s t e)))

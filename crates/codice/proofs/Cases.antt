@@ -10,7 +10,7 @@ use Rattle.text.specs.White.{whitePoints, isWhite}
 use Rattle.text.specs.Content.{contentFrom, contentOf}
 use Rattle.forms.specs.declared.form.Fault.{Fault}
 use Rattle.forms.specs.declared.form.Fault.the-variants.{Fits, Length, At}
-use Rattle.codice.specs.Integer.{isEmpty, past, trimEnd, isSign, unsigned, someDigits, integerText}
+use Rattle.codice.specs.Integer.{isEmpty, past, trimEnd, isSign, unsigned, oneOrMoreDigits, integerText}
 use Rattle.codice.specs.Codice.{failing, codiceOf, codiceFault}
 
 -- a text, and what is wrong with it
@@ -71,5 +71,5 @@ table =
     ∷ []
 
 pub cases : map found table ≡ map told table
-unfolding pick within isDigit isLetter all two three four stepOf among whitePoints isWhite contentFrom contentOf isEmpty past trimEnd isSign unsigned someDigits integerText failing codiceOf codiceFault
+unfolding pick within isDigit isLetter all two three four stepOf among whitePoints isWhite contentFrom contentOf isEmpty past trimEnd isSign unsigned oneOrMoreDigits integerText failing codiceOf codiceFault
 cases = refl

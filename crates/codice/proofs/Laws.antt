@@ -1,8 +1,8 @@
 -- Laws of the definitions, for the code's proofs. Assumes nothing.
-use mathlib.Core.Path.{_≡_, refl, _∙_, sym}
-use mathlib.Core.Bool.{Bool, true, false, _&&_, and-true}
+use mathlib.Core.Path.{_≡_, refl, _∙_, sym, ap}
+use mathlib.Core.Bool.{Bool, true, false, and-true}
 use mathlib.Core.List.{List, [], _∷_}
-use Prim.Native.Nat.{ℕ, suc, _+_, _-_, _≤_, _<_}
+use Prim.Native.Nat.{ℕ, zero, suc, _+_, _-_, _≤_, _<_}
 use native.Mathlib.Numerals.{add-one}
 use native.Mathlib.Omega.{arith}
 use borrow.Author.Tests.{le-leb, lt-leb, leb-true, leb-false}
@@ -11,10 +11,12 @@ use lib.ListN.{length, getD, take, drop, drop-of-length-le, length-drop}
 use lib.Seq.{drop-cons}
 use Rattle.ascii.specs.Pick.{pick}
 use Rattle.ascii.specs.Class.{all}
+use Rattle.text.specs.Content.{Piece, codes}
 use Rattle.forms.specs.declared.form.Fault.{Fault}
 use Rattle.forms.specs.declared.form.Fault.the-variants.{Fits, At}
 use Rattle.codice.specs.Integer.{isEmpty, past, isSign, unsigned}
 use Rattle.codice.specs.Codice.{Group, part, failing}
+use Rattle.codice.specs.Inner.{Listed, Answered}
 
 -- a test over the points from a place on
 module _ (p : ℕ → Bool) (s : List ℕ) (i : ℕ) where
@@ -29,18 +31,6 @@ module _ (p : ℕ → Bool) (s : List ℕ) (i : ℕ) where
   pub past-end : length s ≤ i → past p (drop i s) ≡ drop i s
   unfolding past
   past-end h = rw (drop-of-length-le s h)
-
-  pub all-more : i < length s → p (getD s i 0) ≡ true → all p (drop i s) ≡ all p (drop (i + 1) s)
-  unfolding all
-  all-more h t = rw (add-one i, drop-cons s i 0 h, t)
-
-  pub all-here : i < length s → p (getD s i 0) ≡ false → all p (drop i s) ≡ false
-  unfolding all
-  all-here h t = rw (drop-cons s i 0 h, t)
-
-  pub all-end : length s ≤ i → all p (drop i s) ≡ true
-  unfolding all
-  all-end h = rw (drop-of-length-le s h)
 
 -- a sign at a place
 module _ (s : List ℕ) (i : ℕ) where
@@ -74,16 +64,30 @@ pub one-point : (p : ℕ → Bool) (s : List ℕ) (i : ℕ) → i < length s →
 unfolding all
 one-point p s i h = rw (drop-cons s i 0 h) (sym (and-true (p (getD s i 0))))
 
+-- a part of the points has a part of their numbers
+codes-take : (n : ℕ) (ps : List Piece) → codes (take n ps) ≡ take n (codes ps)
+codes-take zero ps = refl
+codes-take (suc n) [] = refl
+codes-take (suc n) (p ∷ ps) = ap (λ (l : List ℕ). p .code ∷ l) (codes-take n ps)
+
+codes-drop : (n : ℕ) (ps : List Piece) → codes (drop n ps) ≡ drop n (codes ps)
+codes-drop zero ps = refl
+codes-drop (suc n) [] = refl
+codes-drop (suc n) (p ∷ ps) = codes-drop n ps
+
 -- the groups one after another
-module _ (g : Group) (gs : List Group) (cs ats : List ℕ) where
-  pub group-ok : {t : Bool} {x : Fault} → t ≡ g .test (part g cs) → t ≡ true → x ≡ failing gs cs ats → x ≡ failing (g ∷ gs) cs ats
-  unfolding failing pick
-  group-ok e h r = rw (sym e ∙ h) r
+module _ (g : Group) (gs : List Group) (cs ats : List ℕ) {t : Bool} (e : t ≡ g .test (take (suc (g .last) - g .first) (drop (g .first) cs))) where
+  tested : {ps : List Piece} {u : Bool} → Listed cs ats ps → t ≡ u → g .test (codes (part g ps)) ≡ u
+  tested {ps} l h = rw (codes-take (suc (g .last) - g .first) (drop (g .first) ps), codes-drop (g .first) ps, l .number) (sym e ∙ h)
 
-  pub group-bad : {t : Bool} → t ≡ g .test (part g cs) → t ≡ false → At (getD ats (g .first) 0) ≡ failing (g ∷ gs) cs ats
+  pub group-ok : t ≡ true → {x : Fault} → Answered gs cs ats x → Answered (g ∷ gs) cs ats x
   unfolding failing pick
-  group-bad e h = rw (sym e ∙ h)
+  group-ok h r = λ ps l. rw (tested l h) (r ps l)
 
-pub group-none : (cs ats : List ℕ) → Fits ≡ failing [] cs ats
+  pub group-bad : t ≡ false → Answered (g ∷ gs) cs ats (At (getD ats (g .first) 0))
+  unfolding failing pick
+  group-bad h = λ ps l. rw (tested l h, l .place)
+
+pub group-none : (cs ats : List ℕ) → Answered [] cs ats Fits
 unfolding failing
-group-none cs ats = refl
+group-none cs ats = λ ps l. refl

@@ -7,57 +7,54 @@ use Prim.Native.Nat.{ℕ, _≤_}
 use native.Mathlib.Omega.{arith}
 use borrow.Author.Tests.{eqb-true}
 use lib.Dec.{eqb}
-use lib.ListN.{length, getD, length-map}
+use lib.ListN.{length, getD}
 use lib.Seq.{take-all}
 use Rattle.ascii.specs.Pick.{pick}
 use Rattle.ascii.specs.Class.{isDigit, all}
 use Rattle.ascii.proofs.Tests.{and-true, false-true}
 use Rattle.text.specs.White.{isWhite}
-use Rattle.text.specs.Content.{Piece, refused, content, contentOf}
-use Rattle.text.specs.Neat.{codes}
-use Rattle.forms.specs.declared.form.Fault.the-variants.{Length}
+use Rattle.text.specs.Content.{Piece, malformed, content, contentOf, codes}
+use Rattle.forms.specs.declared.form.Fault.the-variants.{Length, At}
 use Rattle.forms.specs.Form.{isFit}
-use Rattle.forms.proofs.Follows.{fit-first}
-use Rattle.codice.specs.Integer.{isEmpty, past, trimEnd, isSign, unsigned, someDigits, integerText}
+use Rattle.forms.proofs.Follows.{fit-pick}
+use Rattle.codice.specs.Integer.{isEmpty, past, trimEnd, isSign, unsigned, oneOrMoreDigits, integerText}
 use Rattle.codice.specs.Codice.{Group, part, groupsOf16, groupsOf11, places, failing, codiceOf, codiceFault}
-use Rattle.codice.specs.Meaning.{passes, isCodice}
+use Rattle.codice.specs.Meaning.{allPass, isCodice}
 use Rattle.codice.proofs.Trim.{digit-dark, digit-unsigned, some-first, integer-read}
 
 -- no group fails exactly when each passes
-pub fit-passes : (gs : List Group) (cs ats : List ℕ) → isFit (failing gs cs ats) ≡ passes gs cs
-unfolding failing passes
-fit-passes [] cs ats = refl
-fit-passes (g ∷ gs) cs ats =
-    fit-first (g .test (part g cs)) (failing gs cs ats) (getD ats (g .first) 0)
-    ∙ ap (λ (x : Bool). g .test (part g cs) && x) (fit-passes gs cs ats)
+fit-passes : (gs : List Group) (ps : List Piece) → isFit (failing gs ps) ≡ allPass gs ps
+unfolding failing allPass
+fit-passes [] ps = refl
+fit-passes (g ∷ gs) ps =
+    let t = g .test (codes (part g ps)) in
+    fit-pick t (failing gs ps) (At (getD (places ps) (g .first) 0)) refl ∙ ap (λ (x : Bool). t && x) (fit-passes gs ps)
 
 -- 11 points are one group
-whole : (cs : List ℕ) → length cs ≡ 11 → passes groupsOf11 cs ≡ integerText cs
-unfolding passes
-whole cs h = let l : length cs ≤ 11 = omega arith in rw (take-all 11 cs l) (bool.and-true (integerText cs))
+whole : (ps : List Piece) → length ps ≡ 11 → allPass groupsOf11 ps ≡ integerText (codes ps)
+unfolding allPass
+whole ps h = let l : length ps ≤ 11 = omega arith in rw (take-all 11 ps l) (bool.and-true (integerText (codes ps)))
 
-by-count : (cs ats : List ℕ) (t u : Bool) → eqb (length cs) 11 ≡ u
-    → isFit (pick t (failing groupsOf16 cs ats) (pick u (failing groupsOf11 cs ats) Length)) ≡ pick t (passes groupsOf16 cs) (u && integerText cs)
+by-count : (ps : List Piece) (t u : Bool) → eqb (length ps) 11 ≡ u
+    → isFit (pick t (failing groupsOf16 ps) (pick u (failing groupsOf11 ps) Length)) ≡ pick t (allPass groupsOf16 ps) (u && integerText (codes ps))
 unfolding pick
-by-count cs ats true u f = fit-passes groupsOf16 cs ats
-by-count cs ats false true f = fit-passes groupsOf11 cs ats ∙ whole cs (eqb-true (length cs) 11 f)
-by-count cs ats false false f = refl
+by-count ps true u f = fit-passes groupsOf16 ps
+by-count ps false true f = fit-passes groupsOf11 ps ∙ whole ps (eqb-true (length ps) 11 f)
+by-count ps false false f = refl
 
 -- a text fits exactly when it is well-formed and its code points are a codice fiscale
-pub codice-fits : (s : List ℕ) (ps : List Piece) → contentOf s ≡ content ps → isFit (codiceFault s) ≡ isCodice (codes ps)
+pub codice-fits : (s : List ℕ) (ps : List Piece) → contentOf s ≡ content ps → isFit (codiceFault s) ≡ isCodice ps
 unfolding codiceFault codiceOf isCodice
-codice-fits s ps e =
-    let n : length (codes ps) ≡ length ps = simp length-map in
-    rw (e, ← n) (by-count (codes ps) (places ps) (eqb (length (codes ps)) 16) (eqb (length (codes ps)) 11) refl)
+codice-fits s ps e = rw e (by-count ps (eqb (length ps) 16) (eqb (length ps) 11) refl)
 
-pub codice-refused : (s : List ℕ) → contentOf s ≡ refused → codiceFault s ≡ Length
+pub codice-malformed : (s : List ℕ) → contentOf s ≡ malformed → codiceFault s ≡ Length
 unfolding codiceFault codiceOf
-codice-refused s e = rw e
+codice-malformed s e = rw e
 
 -- ---- integer texts
 
 one-step : (c : ℕ) (d w g : Bool) → isDigit c ≡ d → isWhite c ≡ w → isSign c ≡ g → integerText (c ∷ []) ≡ d
-unfolding integerText past trimEnd unsigned someDigits isEmpty all pick
+unfolding integerText past trimEnd unsigned oneOrMoreDigits isEmpty all pick
 one-step c true w g e f h = rw (digit-dark c e) (rw (digit-dark c e) (rw (digit-unsigned c e) (rw e)))
 one-step c false true g e f h = rw f
 one-step c false false true e f h = rw f (rw f (rw h))
@@ -73,8 +70,8 @@ past-all p [] e = refl
 past-all p (c ∷ l) e = let q = and-true (p c) (all p l) e in rw (q .0) (past-all p l (q .1))
 
 -- digits alone are an integer text
-pub digits-integer : (l : List ℕ) → someDigits l ≡ true → integerText l ≡ true
-unfolding past unsigned someDigits isEmpty all pick
+pub digits-integer : (l : List ℕ) → oneOrMoreDigits l ≡ true → integerText l ≡ true
+unfolding past unsigned oneOrMoreDigits isEmpty all pick
 digits-integer [] e = false-true e
 digits-integer (c ∷ l) e =
     let q = and-true (isDigit c) (all isDigit l) e in

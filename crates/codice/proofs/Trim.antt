@@ -14,7 +14,7 @@ use Rattle.ascii.specs.Class.{within, isDigit, all, among}
 use Rattle.ascii.proofs.Tests.{false-true, implies, implies-use, below, below-at}
 use Rattle.ascii.proofs.Class.{digit-bounds}
 use Rattle.text.specs.White.{whitePoints, isWhite}
-use Rattle.codice.specs.Integer.{isEmpty, past, trimEnd, isSign, unsigned, someDigits, integerText}
+use Rattle.codice.specs.Integer.{isEmpty, past, trimEnd, isSign, unsigned, oneOrMoreDigits, integerText}
 
 -- ---- digits and signs are not white, and a digit is no sign
 
@@ -60,8 +60,8 @@ white-left (c ∷ m) = white-step c m (isWhite c) (isEmpty (trimEnd m)) refl ref
 
 -- what begins with no digit is all digits after trimming exactly when nothing is left
 other-step : (c : ℕ) (m : List ℕ) (t : Bool) → isDigit c ≡ false → (isWhite c && isEmpty (trimEnd m)) ≡ t
-    → (isEmpty (trimEnd (c ∷ m)) ≡ all isDigit (trimEnd (c ∷ m))) × (someDigits (trimEnd (c ∷ m)) ≡ false)
-unfolding trimEnd isEmpty all someDigits pick
+    → (isEmpty (trimEnd (c ∷ m)) ≡ all isDigit (trimEnd (c ∷ m))) × (oneOrMoreDigits (trimEnd (c ∷ m)) ≡ false)
+unfolding trimEnd isEmpty all oneOrMoreDigits pick
 other-step c m true d e = rw e (refl, refl)
 other-step c m false d e = rw e (rw d refl, rw d refl)
 
@@ -76,23 +76,23 @@ unfolding past trimEnd isEmpty all
 digits-left [] = refl
 digits-left (c ∷ m) = digits-step c m (isDigit c) refl (digits-left m)
 
-pub some-first : (c : ℕ) (m : List ℕ) → isDigit c ≡ true → someDigits (trimEnd (c ∷ m)) ≡ isEmpty (past isWhite (past isDigit m))
-unfolding trimEnd someDigits all pick
+pub some-first : (c : ℕ) (m : List ℕ) → isDigit c ≡ true → oneOrMoreDigits (trimEnd (c ∷ m)) ≡ isEmpty (past isWhite (past isDigit m))
+unfolding trimEnd oneOrMoreDigits all pick
 some-first c m e = rw (digit-dark c e) (rw e (sym (digits-left m)))
 
-some-not : (c : ℕ) (m : List ℕ) → isDigit c ≡ false → someDigits (trimEnd (c ∷ m)) ≡ false
+some-not : (c : ℕ) (m : List ℕ) → isDigit c ≡ false → oneOrMoreDigits (trimEnd (c ∷ m)) ≡ false
 some-not c m e = other-step c m (isWhite c && isEmpty (trimEnd m)) e refl .1
 
 module _ (s : List ℕ) (i : ℕ) where
-  pub number-none : length s ≤ i → someDigits (trimEnd (drop i s)) ≡ false
-  unfolding trimEnd someDigits
+  pub number-none : length s ≤ i → oneOrMoreDigits (trimEnd (drop i s)) ≡ false
+  unfolding trimEnd oneOrMoreDigits
   number-none h = rw (drop-of-length-le s h)
 
-  pub number-not : i < length s → isDigit (getD s i 0) ≡ false → someDigits (trimEnd (drop i s)) ≡ false
+  pub number-not : i < length s → isDigit (getD s i 0) ≡ false → oneOrMoreDigits (trimEnd (drop i s)) ≡ false
   number-not h t = rw (drop-cons s i 0 h) (some-not (getD s i 0) _ t)
 
   pub number-first : i < length s → isDigit (getD s i 0) ≡ true
-      → someDigits (trimEnd (drop i s)) ≡ isEmpty (past isWhite (past isDigit (drop (i + 1) s)))
+      → oneOrMoreDigits (trimEnd (drop i s)) ≡ isEmpty (past isWhite (past isDigit (drop (i + 1) s)))
   number-first h t = rw (add-one i, drop-cons s i 0 h) (some-first (getD s i 0) _ t)
 
 -- ---- the sign and the end do not meet
@@ -109,6 +109,6 @@ unfolding unsigned trimEnd
 unsigned-trim [] = refl
 unsigned-trim (c ∷ m) = sign-step c m (isSign c) (isWhite c && isEmpty (trimEnd m)) refl refl
 
-pub integer-read : (l : List ℕ) → integerText l ≡ someDigits (trimEnd (unsigned (past isWhite l)))
+pub integer-read : (l : List ℕ) → integerText l ≡ oneOrMoreDigits (trimEnd (unsigned (past isWhite l)))
 unfolding integerText
-integer-read l = ap someDigits (unsigned-trim (past isWhite l))
+integer-read l = ap oneOrMoreDigits (unsigned-trim (past isWhite l))

@@ -6,8 +6,7 @@ use lib.Dec.{eqb}
 use lib.ListN.{length, getD, take, drop}
 use Rattle.ascii.specs.Pick.{pick}
 use Rattle.ascii.specs.Class.{isDigit, isLetter, all}
-use Rattle.text.specs.Content.{Piece, Content, refused, content, contentOf}
-use Rattle.text.specs.Neat.{codes}
+use Rattle.text.specs.Content.{Piece, Content, malformed, content, contentOf, codes}
 use Rattle.forms.specs.declared.form.Fault.{Fault}
 use Rattle.forms.specs.declared.form.Fault.the-variants.{Fits, Length, At}
 use Rattle.codice.specs.Integer.{integerText}
@@ -22,14 +21,14 @@ abbrev pub group : ℕ → ℕ → (List ℕ → Bool) → Group
 group first last test = record { first = first; last = last; test = test }
 
 -- the points of a group
-abbrev pub part : Group → List ℕ → List ℕ
-part g cs = take (suc (g .last) - g .first) (drop (g .first) cs)
+abbrev pub part : Group → List Piece → List Piece
+part g ps = take (suc (g .last) - g .first) (drop (g .first) ps)
 
-abbrev pub letters : List ℕ → Bool
-letters cs = all isLetter cs
+abbrev pub allLetters : List ℕ → Bool
+allLetters cs = all isLetter cs
 
-abbrev pub digits : List ℕ → Bool
-digits cs = all isDigit cs
+abbrev pub allDigits : List ℕ → Bool
+allDigits cs = all isDigit cs
 
 abbrev pub anything : List ℕ → Bool
 anything cs = true
@@ -37,13 +36,13 @@ anything cs = true
 -- the groups of 16 points
 abbrev pub groupsOf16 : List Group
 groupsOf16 =
-    group 0 5 letters
+    group 0 5 allLetters
     ∷ group 6 7 integerText
-    ∷ group 8 8 letters
+    ∷ group 8 8 allLetters
     ∷ group 9 10 integerText
     ∷ group 11 13 anything
-    ∷ group 14 14 digits
-    ∷ group 15 15 letters
+    ∷ group 14 14 allDigits
+    ∷ group 15 15 allLetters
     ∷ []
 
 -- the one group of 11
@@ -54,16 +53,16 @@ groupsOf11 = group 0 10 integerText ∷ []
 abbrev pub places : List Piece → List ℕ
 places ps = map (λ (p : Piece). p .at) ps
 
--- where the first group that fails begins; cs are the points, and ats their places
-unfoldable pub failing : List Group → List ℕ → List ℕ → Fault
-failing [] cs ats = Fits
-failing (g ∷ gs) cs ats = pick (g .test (part g cs)) (failing gs cs ats) (At (getD ats (g .first) 0))
+-- the place of the first group that fails
+unfoldable pub failing : List Group → List Piece → Fault
+failing [] ps = Fits
+failing (g ∷ gs) ps = pick (g .test (codes (part g ps))) (failing gs ps) (At (getD (places ps) (g .first) 0))
 
 unfoldable pub codiceOf : Content → Fault
-codiceOf refused = Length
+codiceOf malformed = Length
 codiceOf (content ps) =
-    pick (eqb (length ps) 16) (failing groupsOf16 (codes ps) (places ps))
-    (pick (eqb (length ps) 11) (failing groupsOf11 (codes ps) (places ps))
+    pick (eqb (length ps) 16) (failing groupsOf16 ps)
+    (pick (eqb (length ps) 11) (failing groupsOf11 ps)
     Length)
 
 -- what is wrong with a text: how many code points it has, or the place of the first group that fails

@@ -35,9 +35,9 @@ unsigned [] = []
 unsigned (c ∷ l) = pick (isSign c) l (c ∷ l)
 
 -- one or more digits
-unfoldable pub someDigits : List ℕ → Bool
-someDigits [] = false
-someDigits (c ∷ l) = all isDigit (c ∷ l)
+unfoldable pub oneOrMoreDigits : List ℕ → Bool
+oneOrMoreDigits [] = false
+oneOrMoreDigits (c ∷ l) = all isDigit (c ∷ l)
 
 unfoldable pub integerText : List ℕ → Bool
-integerText l = someDigits (unsigned (trim l))
+integerText l = oneOrMoreDigits (unsigned (trim l))

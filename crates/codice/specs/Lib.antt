@@ -1,5 +1,5 @@
 -- The codice fiscale, over code points.
 pub mod Integer
 pub mod Codice
-pub mod Points
 pub mod Meaning
+pub mod Inner

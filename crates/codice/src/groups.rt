@@ -2,7 +2,8 @@
 ghost use mathlib.Core.Path.{_≡_};
 ghost use lib.ListN.{length};
 ghost use Rattle.ascii.specs.Class.{isLetter, all};
-ghost use Rattle.codice.specs.Codice.{groupsOf16, failing, codiceFault};
+ghost use Rattle.codice.specs.Codice.{groupsOf16, codiceFault};
+ghost use Rattle.codice.specs.Inner.{Answered};
 use super::integer::castable_integer;
 use super::points::Count;
 use super::points::take_points;
@@ -27,7 +28,7 @@ fn all_letters(p: &[u32]) -> bool
 // The groups of 16 code points, one after another.
 fn failing_group(p: &[u32], places: &[usize]) -> Fault
     requires { ⌜ (length (now p) ≡ 16) × (length (now places) ≡ 16) ⌝ }
-    ensures { λ r. ⌜ r ≡ failing groupsOf16 (now (p .entry)) (now (places .entry)) ⌝ }
+    ensures { λ r. ⌜ Answered groupsOf16 (now (p .entry)) (now (places .entry)) r ⌝ }
 {
     if all_letters(&p[0..6]) {
         if castable_integer(&p[6..8]) {

@@ -3,7 +3,7 @@ ghost use mathlib.Core.Path.{_≡_};
 ghost use lib.ListN.{drop};
 ghost use Rattle.ascii.specs.Class.{isDigit};
 ghost use Rattle.text.specs.White.{isWhite};
-ghost use Rattle.codice.specs.Integer.{past, isSign, unsigned, trimEnd, someDigits, integerText};
+ghost use Rattle.codice.specs.Integer.{past, isSign, unsigned, trimEnd, oneOrMoreDigits, integerText};
 use ascii::is_digit;
 use text::is_white;
 
@@ -61,7 +61,7 @@ fn past_sign(p: &[u32], at: usize) -> usize
 
 // One or more digits from `at` on, and only white after them.
 fn is_number(p: &[u32], at: usize) -> bool
-    ensures { λ r. ⌜ r ≡ someDigits (trimEnd (drop at (now (p .entry)))) ⌝ }
+    ensures { λ r. ⌜ r ≡ oneOrMoreDigits (trimEnd (drop at (now (p .entry)))) ⌝ }
 {
     if p.len() <= at {
         return false;

@@ -1,7 +1,7 @@
 // The code points of a text, and where they stand.
 ghost use mathlib.Core.Path.{_≡_};
 ghost use lib.ListN.{length};
-ghost use Rattle.codice.specs.Points.{Taken};
+ghost use Rattle.codice.specs.Inner.{Taken};
 use text::Step;
 use text::decode;
 

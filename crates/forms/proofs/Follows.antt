@@ -19,10 +19,10 @@ follows [] r s = all (ofClass r) s
 follows (k ∷ h) r [] = true
 follows (k ∷ h) r (b ∷ s) = ofClass k b && follows h r s
 
-pub fit-first : (t : Bool) (x : Fault) (k : ℕ) → isFit (pick t x (At k)) ≡ t && isFit x
+pub fit-pick : (t : Bool) (x y : Fault) → isFit y ≡ false → isFit (pick t x y) ≡ t && isFit x
 unfolding pick
-fit-first true x k = refl
-fit-first false x k = refl
+fit-pick true x y e = refl
+fit-pick false x y e = e
 
 -- a head's first class is passed over with the first byte
 behind : (k : ℕ) (h : List ℕ) (r i : ℕ) (s : List ℕ) → isFit (wrong (classAt (k ∷ h) r) (suc i) s) ≡ isFit (wrong (classAt h r) i s)
@@ -30,34 +30,29 @@ unfolding wrong
 behind k h r i [] = refl
 behind k h r i (b ∷ s) =
     let t = ofClass (classAt h r i) b in
-    fit-first t (wrong (classAt (k ∷ h) r) (suc (suc i)) s) (suc i)
+    fit-pick t (wrong (classAt (k ∷ h) r) (suc (suc i)) s) (At (suc i)) refl
     ∙ ap (λ (x : Bool). t && x) (behind k h r (suc i) s)
-    ∙ sym (fit-first t (wrong (classAt h r) (suc i) s) i)
+    ∙ sym (fit-pick t (wrong (classAt h r) (suc i) s) (At i) refl)
 
 plain-walk : (r i : ℕ) (s : List ℕ) → isFit (wrong (classAt [] r) i s) ≡ all (ofClass r) s
 unfolding wrong all
 plain-walk r i [] = refl
 plain-walk r i (b ∷ s) =
-    fit-first (ofClass r b) (wrong (classAt [] r) (suc i) s) i ∙ ap (λ (x : Bool). ofClass r b && x) (plain-walk r (suc i) s)
+    fit-pick (ofClass r b) (wrong (classAt [] r) (suc i) s) (At i) refl ∙ ap (λ (x : Bool). ofClass r b && x) (plain-walk r (suc i) s)
 
 walk : (h : List ℕ) (r : ℕ) (s : List ℕ) → isFit (wrong (classAt h r) 0 s) ≡ follows h r s
 unfolding wrong
 walk [] r s = plain-walk r 0 s
 walk (k ∷ h) r [] = refl
 walk (k ∷ h) r (b ∷ s) =
-    fit-first (ofClass k b) (wrong (classAt (k ∷ h) r) 1 s) 0
+    fit-pick (ofClass k b) (wrong (classAt (k ∷ h) r) 1 s) (At 0) refl
     ∙ ap (λ (x : Bool). ofClass k b && x) (behind k h r 0 s ∙ walk h r s)
-
-fit-range : (t : Bool) (x : Fault) → isFit (pick t x Length) ≡ t && isFit x
-unfolding pick
-fit-range true x = refl
-fit-range false x = refl
 
 pub fits-follows : (f : Form) (s : List ℕ) → fits f s ≡ within (f .least) (f .most) (length s) && follows (f .head) (f .rest) s
 unfolding fits faultOf
 fits-follows f s =
     let t = within (f .least) (f .most) (length s) in
-    fit-range t (wrong (classAt (f .head) (f .rest)) 0 s) ∙ ap (λ (x : Bool). t && x) (walk (f .head) (f .rest) s)
+    fit-pick t (wrong (classAt (f .head) (f .rest)) 0 s) Length refl ∙ ap (λ (x : Bool). t && x) (walk (f .head) (f .rest) s)
 
 -- ---- the classes of a list
 

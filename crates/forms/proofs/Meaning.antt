@@ -37,30 +37,16 @@ module _ (f : Form) (s : List ℕ) where
 
 -- ---- a pick, by its answer
 
-pick-fits : (t : Bool) (x : Fault) (k : ℕ) → pick t x (At k) ≡ Fits → (t ≡ true) × (x ≡ Fits)
+-- an answer that is not the second is the first, and the test passes
+picked : (t : Bool) {x y z : Fault} → pick t x y ≡ z → (y ≡ z → ⊥) → (t ≡ true) × (x ≡ z)
 unfolding pick
-pick-fits true x k h = (refl, h)
-pick-fits false x k h = let z : _≡_ {A = ℕ} 0 1 = cc in absurd (omega arith)
+picked true h n = (refl, h)
+picked false h n = absurd (n h)
 
 pick-at : (t : Bool) (x : Fault) (k m : ℕ) → pick t x (At k) ≡ At m → ((t ≡ true) × (x ≡ At m)) ⊎ ((t ≡ false) × (k ≡ m))
 unfolding pick
 pick-at true x k m h = inl (refl, h)
 pick-at false x k m h = inr (refl, cc)
-
-pick-length : (t : Bool) (x : Fault) (k : ℕ) → pick t x (At k) ≡ Length → x ≡ Length
-unfolding pick
-pick-length true x k h = h
-pick-length false x k h = cc
-
-ranged : (t : Bool) (x : Fault) → pick t x Length ≡ Fits → (t ≡ true) × (x ≡ Fits)
-unfolding pick
-ranged true x h = (refl, h)
-ranged false x h = let z : _≡_ {A = ℕ} 0 1 = cc in absurd (omega arith)
-
-ranged-at : (t : Bool) (x : Fault) (m : ℕ) → pick t x Length ≡ At m → (t ≡ true) × (x ≡ At m)
-unfolding pick
-ranged-at true x m h = (refl, h)
-ranged-at false x m h = let z : _≡_ {A = ℕ} 0 1 = cc in absurd (omega arith)
 
 unranged : (t : Bool) (x : Fault) → (x ≡ Length → ⊥) → pick t x Length ≡ Length → t ≡ false
 unfolding pick
@@ -70,13 +56,16 @@ unranged false x n h = refl
 -- ---- the walk over the places
 
 module _ (g : ℕ → ℕ) where
+  not-at : (k : ℕ) → At k ≡ Fits → ⊥
+  not-at k e = let z : _≡_ {A = ℕ} 0 1 = cc in omega arith
+
   right-all : (k : ℕ) (s : List ℕ) → wrong g k s ≡ Fits → (i : ℕ) → i < length s → ofClass (g (k + i)) (getD s i 0) ≡ true
   unfolding wrong
   right-all k [] h i l = absurd (not-suc-le-zero l)
-  right-all k (b ∷ s) h zero l = let e : k + 0 ≡ k = omega arith in rw e (pick-fits (ofClass (g k) b) (wrong g (suc k) s) k h .0)
+  right-all k (b ∷ s) h zero l = let e : k + 0 ≡ k = omega arith in rw e (picked (ofClass (g k) b) h (not-at k) .0)
   right-all k (b ∷ s) h (suc i) l =
       let e : k + suc i ≡ suc k + i = omega arith in
-      rw e (right-all (suc k) s (pick-fits (ofClass (g k) b) (wrong g (suc k) s) k h .1) i (le-of-suc-le-suc l))
+      rw e (right-all (suc k) s (picked (ofClass (g k) b) h (not-at k) .1) i (le-of-suc-le-suc l))
 
   all-right : (k : ℕ) (s : List ℕ) → ((i : ℕ) → i < length s → ofClass (g (k + i)) (getD s i 0) ≡ true) → wrong g k s ≡ Fits
   unfolding wrong pick
@@ -89,7 +78,7 @@ module _ (g : ℕ → ℕ) where
   no-length : (k : ℕ) (s : List ℕ) → wrong g k s ≡ Length → ⊥
   unfolding wrong
   no-length k [] h = let z : _≡_ {A = ℕ} 0 1 = cc in omega arith
-  no-length k (b ∷ s) h = no-length (suc k) s (pick-length (ofClass (g k) b) (wrong g (suc k) s) k h)
+  no-length k (b ∷ s) h = no-length (suc k) s (picked (ofClass (g k) b) h (λ (e : At k ≡ Length). let z : _≡_ {A = ℕ} 0 1 = cc in omega arith) .1)
 
   first-at : (k : ℕ) (s : List ℕ) (m : ℕ) → wrong g k s ≡ At m
       → (k ≤ m) × ((m - k < length s) × ((ofClass (g m) (getD s (m - k) 0) ≡ false)
@@ -125,7 +114,7 @@ module _ (g : ℕ → ℕ) where
 pub fits-means : (f : Form) (s : List ℕ) → faultOf f s ≡ Fits → Fitting f s
 unfolding faultOf
 fits-means f s h =
-    let p = ranged (within (f .least) (f .most) (length s)) (wrong (classAt (f .head) (f .rest)) 0 s) h in
+    let p = picked (within (f .least) (f .most) (length s)) h (λ (e : Length ≡ Fits). let z : _≡_ {A = ℕ} 0 1 = cc in omega arith) in
     let q = bounds (f .least) (f .most) (length s) (p .0) in
     record {
       least = q .0;
@@ -151,7 +140,7 @@ means-length f s h = rw h
 pub at-means : (f : Form) (s : List ℕ) (m : ℕ) → faultOf f s ≡ At m → First f s m
 unfolding faultOf
 at-means f s m h =
-    let p = ranged-at (within (f .least) (f .most) (length s)) (wrong (classAt (f .head) (f .rest)) 0 s) m h in
+    let p = picked (within (f .least) (f .most) (length s)) h (λ (e : Length ≡ At m). let z : _≡_ {A = ℕ} 0 1 = cc in omega arith) in
     let b = bounds (f .least) (f .most) (length s) (p .0) in
     let q = first-at (classAt (f .head) (f .rest)) 0 s m (p .1) in
     record {

@@ -12,13 +12,8 @@ use Rattle.ascii.specs.Class.{within, isDigit, isLetter, isPlain, all}
 use Rattle.ascii.proofs.Tests.{and-true, not-true}
 use Rattle.ascii.proofs.Class.{below, bounds, all-cons}
 use Rattle.forms.specs.Form.{Form, ofClass, formFrom, faultOf, fits}
-use Rattle.forms.specs.Table.{form, digits, ipa, dkAndEight, danishOf, italianOf, account}
+use Rattle.forms.specs.Table.{form, digits, dkAndEight, danishOf, italianOf, account}
 use Rattle.forms.proofs.Follows.{fits-follows, fits-parts, rest-follows, unfit, all-digit, all-plain}
-
--- ---- 44
-
-pub fits-ipa : (s : List ℕ) → fits ipa s ≡ within 6 6 (length s) && all isPlain s
-fits-ipa s = fits-follows ipa s ∙ ap (λ (x : Bool). within 6 6 (length s) && x) (all-plain s)
 
 -- ---- a head and then digits
 
@@ -32,11 +27,7 @@ headed h a b s e =
     let p = fits-parts (formFrom h 0x23 a b) s e in
     record { least = p .0 .0; most = p .0 .1; digit = sym (all-digit (drop (length h) s)) ∙ rest-follows h 0x23 s (p .1) }
 
--- ---- 42 and 53
-
-pub fits-dk : (a b : ℕ) (s : List ℕ) → fits dkAndEight (a ∷ b ∷ s) ≡ within 10 10 (length (a ∷ b ∷ s)) && (eqb a 0x44 && (eqb b 0x4b && all isDigit s))
-unfolding ofClass pick
-fits-dk a b s = fits-follows dkAndEight (a ∷ b ∷ s) ∙ ap (λ (x : Bool). within 10 10 (length (a ∷ b ∷ s)) && (eqb a 0x44 && (eqb b 0x4b && x))) (all-digit s)
+-- ---- 42
 
 -- DK and 8 digits, or 8 digits
 pub danish-either : (s : List ℕ) → fits (danishOf s) s ≡ fits dkAndEight s || fits (digits 8 8) s

@@ -3,7 +3,6 @@ use mathlib.Core.Path.{_≡_, _∙_, sym, ap}
 use mathlib.Core.Bool.{Bool, true, _&&_}
 use mathlib.Core.List.{List}
 use Prim.Native.Nat.{ℕ, _≤_}
-use native.Mathlib.Omega.{arith}
 use lib.ListN.{length}
 use Rattle.ascii.specs.Class.{within, isDigit, all}
 use Rattle.ascii.proofs.Tests.{and-true, true-and}
@@ -38,6 +37,3 @@ module _ (a b : ℕ) (s : List ℕ) where
 
   pub fit-digits : Digits a b s → faultOf (digits a b) s ≡ Fits
   fit-digits d = fits-fault (digits a b) s (true-digits d)
-
-pub digits-exact : (n : ℕ) (s : List ℕ) → faultOf (digits n n) s ≡ Fits → length s ≡ n
-digits-exact n s e = let d = digits-fit n n s e in omega arith

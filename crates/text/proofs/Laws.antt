@@ -10,12 +10,13 @@ use borrow.Author.Tests.{leb-true}
 use lib.Dec.{leb}
 use lib.ListN.{length, replicate, length-map}
 use lib.Seq.{take-at}
+use Rattle.ascii.specs.Pick.{pick}
 use Rattle.answer.specs.declared.reason.Reason.{Reason}
 use Rattle.answer.specs.declared.reason.Reason.the-variants.{Long, Utf8}
-use Rattle.text.specs.Content.{Piece, Cell, Content, refused, content, contentFrom, contentOf, cells, cellsOf, bytesOf}
+use Rattle.text.specs.Content.{Piece, Cell, Content, malformed, content, contentFrom, contentOf, cells, cellsOf, bytesOf, codes}
 use Rattle.text.specs.Words.{words, spaceAfter, spaced, closed, normal, stripped}
 use Rattle.text.specs.Answer.{whyRefused, readableOf, padded, kept, refusal, onContent, answer, normalText, strippedText, textOf}
-use Rattle.text.specs.Neat.{All, Dark, Neat, codes, itself}
+use Rattle.text.specs.Neat.{All, Dark, Neat, itself}
 use Rattle.text.proofs.Rows.{row-1}
 use Rattle.text.proofs.Padded.{length-padded}
 use Rattle.text.proofs.Points.{texts, texts-cells, length-cells}
@@ -35,7 +36,7 @@ text-kept : (cs : List Cell) → textOf (kept cs) ≡ texts cs
 unfolding kept padded
 text-kept cs = take-at (texts cs) (replicate (1024 - length (texts cs)) 0) (length cs) (simp length-map)
 
--- a content that is neither too long nor refused
+-- a content that is neither too long nor malformed
 pub record Taken (s : List ℕ) : Type 0 where
   pub short : length s ≤ 1024
   pub points : List Piece
@@ -45,11 +46,11 @@ pub record Taken (s : List ℕ) : Type 0 where
 
 reason-on : (c : Content) (f : List Piece → List Cell) → onContent c f .reason ≡ whyRefused c
 unfolding kept refusal
-reason-on refused f = refl
+reason-on malformed f = refl
 reason-on (content ps) f = refl
 
 reason-at : (f : List Piece → List Cell) (s : List ℕ) (t : Bool) → leb (length s) 1024 ≡ t → answer f s .reason ≡ readableOf s
-unfolding answer readableOf refusal
+unfolding answer readableOf refusal pick
 reason-at f s true e = rw e (reason-on (contentOf s) f)
 reason-at f s false e = rw e
 
@@ -74,9 +75,9 @@ space-sound w r = row-1 0x20 r (omega arith)
 module _ (f : List Piece → List Cell) where
   outcome-at : (s : List ℕ) (t : Bool) (c : Content) → leb (length s) 1024 ≡ t → contentOf s ≡ c
       → ((r : Reason) × (answer f s ≡ refusal r)) ⊎ Taken s
-  unfolding answer
+  unfolding answer pick
   outcome-at s false c e h = inl (Long, rw e)
-  outcome-at s true refused e h = inl (Utf8, rw (e, h))
+  outcome-at s true malformed e h = inl (Utf8, rw (e, h))
   outcome-at s true (content ps) e h = inr (record { short = leb-true (length s) 1024 e; points = ps; reads = h })
 
   -- a content is refused, or it is taken
@@ -129,9 +130,6 @@ module _ (f : List Piece → List Cell) (g : List Piece → List Piece) (k : Pic
   area-whole : (s : List ℕ) → length (answer f s .bytes) ≡ 1024
   unfolding refusal
   area-whole s = ⊎-elim (λ r. rw (r .1) (length-padded [] (omega arith))) (λ t. area-taken s t) (outcome f s)
-
-  part-fits : (s : List ℕ) → answer f s .len ≤ length (answer f s .bytes)
-  part-fits s = let a = area-whole s in let h = len-fits s in omega arith
 
   -- the text is read as the points that were picked
   again : (s : List ℕ) (t : Taken s) → contentOf (bytesOf (g (t .points))) ≡ content (placed 0 (g (t .points)))
@@ -210,10 +208,6 @@ text-fits s = len-fits normal tidy picks-normal s
 pub text-area : (s : List ℕ) → length (normalText s .bytes) ≡ 1024
 unfolding normalText
 text-area s = area-whole normal tidy picks-normal s
-
-pub text-part : (s : List ℕ) → normalText s .len ≤ length (normalText s .bytes)
-unfolding normalText
-text-part s = part-fits normal tidy picks-normal s
 
 -- it is never longer
 pub never-longer : (s : List ℕ) → length (textOf (normalText s)) ≤ length s
@@ -296,10 +290,6 @@ strip-fits s = len-fits stripped dense picks-stripped s
 pub strip-area : (s : List ℕ) → length (strippedText s .bytes) ≡ 1024
 unfolding strippedText
 strip-area s = area-whole stripped dense picks-stripped s
-
-pub strip-part : (s : List ℕ) → strippedText s .len ≤ length (strippedText s .bytes)
-unfolding strippedText
-strip-part s = part-fits stripped dense picks-stripped s
 
 pub strip-never-longer : (s : List ℕ) → length (textOf (strippedText s)) ≤ length s
 unfolding strippedText

@@ -1,6 +1,6 @@
 -- How a walk over the places of a list follows its content: at each place the code points that are left.
 use mathlib.Core.Path.{_≡_, refl, sym, ap, subst, _∙_}
-use mathlib.Core.List.{List, [], _∷_, map}
+use mathlib.Core.List.{List, [], _∷_, _++_, map}
 use mathlib.Core.Bool.{Bool, true, false}
 use Prim.Native.Nat.{ℕ, zero, suc, _+_, _-_, _≤_, _<_}
 use native.Mathlib.Nat.{add-zero, suc-add, add-suc}
@@ -16,55 +16,78 @@ use Rattle.ascii.specs.Class.{all}
 use Rattle.ascii.proofs.Class.{all-first, all-rest}
 use Rattle.answer.specs.declared.reason.Reason.the-variants.{NoReason}
 use Rattle.text.specs.Utf8.{two, three, four, stepOf}
-use Rattle.text.specs.Content.{Piece, Cell, Content, refused, content, withFirst, contentFrom, cells}
+use Rattle.text.specs.Content.{Piece, Cell, Content, malformed, content, withFirst, contentFrom, cells}
 use Rattle.text.specs.Answer.{whyRefused, onContent}
 use Rattle.text.proofs.Rows.{row-1}
 
--- a point takes one byte at least, and no more than there are
-abbrev Good : List ℕ → Step → Type 0
-Good l (Point c n) = (1 ≤ n) × (n ≤ length l)
-Good l Refused = Unit {0}
+-- ---- a point takes one byte at least, no more than there are, and is read from its own bytes, whatever follows
 
-good-cond : (l : List ℕ) (t : Bool) (x y : Step) → Good l x → Good l y → Good l (pick t x y)
+-- what a step x of m bytes says of the steps y, by the number of bytes that are kept
+record Own (m : ℕ) (x : Step) (y : ℕ → Step) : Type 0 where
+  get : (c n : ℕ) → x ≡ Point c n → (1 ≤ n) × (n ≤ m) × (y n ≡ Point c n)
+
+own-refused : (m : ℕ) (y : ℕ → Step) → Own m Refused y
+own-refused m y = record { get = λ c n e. absurd (let z : _≡_ {A = ℕ} 0 1 = cc in omega arith) }
+
+own-pick : (t : Bool) {m : ℕ} {x x′ : Step} {y y′ : ℕ → Step} → Own m x y → Own m x′ y′ → Own m (pick t x x′) (λ n. pick t (y n) (y′ n))
 unfolding pick
-good-cond l true x y p q = p
-good-cond l false x y p q = q
+own-pick true p q = p
+own-pick false p q = q
 
-good-two : (a : ℕ) (l : List ℕ) → Good (a ∷ l) (two a l)
-unfolding two
-good-two a [] = tt
-good-two a (b ∷ l) = good-cond _ _ _ _ (omega arith) tt
+own-one : (c k : ℕ) {m : ℕ} (y : ℕ → Step) → 1 ≤ k → k ≤ m → y k ≡ Point c k → Own m (Point c k) y
+own-one c k {m} y h l e =
+    record { get = λ d n f. let g : k ≡ n = cc in subst (λ (j : ℕ). (1 ≤ j) × (j ≤ m) × (y j ≡ Point d n)) g (h, l, e ∙ f) }
 
-good-three : (a low high : ℕ) (l : List ℕ) → Good (a ∷ l) (three a low high l)
-unfolding three
-good-three a low high [] = tt
-good-three a low high (b ∷ []) = tt
-good-three a low high (b ∷ c ∷ l) = good-cond _ _ _ _ (omega arith) tt
+own-point : (t : Bool) (c k : ℕ) {m : ℕ} (y : ℕ → Step) → 1 ≤ k → k ≤ m → y k ≡ pick t (Point c k) Refused → Own m (pick t (Point c k) Refused) y
+unfolding pick
+own-point true c k y h l e = own-one c k y h l e
+own-point false c k y h l e = own-refused _ y
 
-good-four : (a low high : ℕ) (l : List ℕ) → Good (a ∷ l) (four a low high l)
-unfolding four
-good-four a low high [] = tt
-good-four a low high (b ∷ []) = tt
-good-four a low high (b ∷ c ∷ []) = tt
-good-four a low high (b ∷ c ∷ d ∷ l) = good-cond _ _ _ _ (omega arith) tt
+module _ (r : List ℕ) (a : ℕ) where
+  own-two : (l : List ℕ) → Own (suc (length l)) (two a l) (λ n. two a (take (n - 1) l ++ r))
+  unfolding two
+  own-two [] = own-refused _ _
+  own-two (b ∷ l) = own-point _ _ 2 _ (omega arith) (omega arith) refl
 
-good : (l : List ℕ) → Good l (stepOf l)
+  own-three : (low high : ℕ) (l : List ℕ) → Own (suc (length l)) (three a low high l) (λ n. three a low high (take (n - 1) l ++ r))
+  unfolding three
+  own-three low high [] = own-refused _ _
+  own-three low high (b ∷ []) = own-refused _ _
+  own-three low high (b ∷ c ∷ l) = own-point _ _ 3 _ (omega arith) (omega arith) refl
+
+  own-four : (low high : ℕ) (l : List ℕ) → Own (suc (length l)) (four a low high l) (λ n. four a low high (take (n - 1) l ++ r))
+  unfolding four
+  own-four low high [] = own-refused _ _
+  own-four low high (b ∷ []) = own-refused _ _
+  own-four low high (b ∷ c ∷ []) = own-refused _ _
+  own-four low high (b ∷ c ∷ d ∷ l) = own-point _ _ 4 _ (omega arith) (omega arith) refl
+
+own-step : (r : List ℕ) (a : ℕ) (l : List ℕ) → Own (suc (length l)) (stepOf (a ∷ l)) (λ n. stepOf (a ∷ (take (n - 1) l ++ r)))
 unfolding stepOf
-good [] = tt
-good (a ∷ l) =
-    let g = good-cond (a ∷ l) in
-    g _ _ _ (omega arith)
-    (g _ _ _ (good-two a l)
-    (g _ _ _ (good-three a _ _ l)
-    (g _ _ _ (good-three a _ _ l)
-    (g _ _ _ (good-three a _ _ l)
-    (g _ _ _ (good-three a _ _ l)
-    (g _ _ _ (good-four a _ _ l)
-    (g _ _ _ (good-four a _ _ l)
-    (g _ _ _ (good-four a _ _ l) tt))))))))
+own-step r a l =
+    own-pick _ (own-one a 1 _ (omega arith) (omega arith) refl)
+    (own-pick _ (own-two r a l)
+    (own-pick _ (own-three r a _ _ l)
+    (own-pick _ (own-three r a _ _ l)
+    (own-pick _ (own-three r a _ _ l)
+    (own-pick _ (own-three r a _ _ l)
+    (own-pick _ (own-four r a _ _ l)
+    (own-pick _ (own-four r a _ _ l)
+    (own-pick _ (own-four r a _ _ l) (own-refused _ _)))))))))
 
 pub point-good : (l : List ℕ) (c n : ℕ) → Point c n ≡ stepOf l → (1 ≤ n) × (n ≤ length l)
-point-good l c n e = subst (Good l) (sym e) (good l)
+unfolding stepOf
+point-good [] c n e = absurd (let z : _≡_ {A = ℕ} 0 1 = cc in omega arith)
+point-good (a ∷ l) c n e = let p = own-step [] a l .get c n (sym e) in (p .0, p .1)
+
+pub own-bytes : (r l : List ℕ) (c n : ℕ) → Point c n ≡ stepOf l → stepOf (take n l ++ r) ≡ Point c n
+own-bytes r [] c n e = absurd (let h = point-good [] c n e in omega arith)
+own-bytes r (a ∷ l) c zero e = absurd (let h = point-good (a ∷ l) c zero e in omega arith)
+own-bytes r (a ∷ l) c (suc m) e =
+    let f : suc m - 1 ≡ m = omega arith in
+    rw f at (own-step r a l .get c (suc m) (sym e) .2)
+
+-- ---- the walk
 
 -- bytes that are passed over
 skip : (o k : ℕ) (l : List ℕ) → contentFrom o k l ≡ contentFrom (o + k) 0 (drop k l)
@@ -83,7 +106,7 @@ unroll-list o c (suc m) (a ∷ l) e =
     rw (← e, f, skip (suc o) m l, suc-add, ← add-suc)
 
 unread-first : (p : Piece) (c : Content) → whyRefused c ≡ whyRefused (withFirst p c)
-unread-first p refused = refl
+unread-first p malformed = refl
 unread-first p (content ps) = refl
 
 -- a byte that is a code point by itself
@@ -102,17 +125,17 @@ module _ (s : List ℕ) (at : ℕ) where
   abbrev pub rest : Content
   rest = contentFrom at 0 (drop at s)
 
-  pub point-fits : (c n : ℕ) → Point c n ≡ stepOf (drop at s) → (1 ≤ n) × (n ≤ length s - at)
-  point-fits c n e = let h = point-good (drop at s) c n e in (h .0, rw length-drop at (h .1))
+  pub point-fits : at ≤ length s → (c n : ℕ) → Point c n ≡ stepOf (drop at s) → (1 ≤ n) × (at + n ≤ length s)
+  point-fits p c n e = let h = point-good (drop at s) c n e in let k = rw length-drop at (h .1) in (h .0, omega arith)
 
-  unroll : (c n : ℕ) → Point c n ≡ stepOf (drop at s)
+  pub unroll : (c n : ℕ) → Point c n ≡ stepOf (drop at s)
       → rest ≡ withFirst (record { at = at; code = c; bytes = take n (drop at s) }) (contentFrom (at + n) 0 (drop (at + n) s))
   unroll c n e = rw (← drop-drop n at s) (unroll-list at c n (drop at s) e)
 
   pub unread-on : (c n : ℕ) → Point c n ≡ stepOf (drop at s) → whyRefused (contentFrom (at + n) 0 (drop (at + n) s)) ≡ whyRefused rest
   unread-on c n e = rw (unroll c n e) (unread-first _ (contentFrom (at + n) 0 (drop (at + n) s)))
 
-  pub at-refused : at < length s → Refused ≡ stepOf (drop at s) → rest ≡ refused
+  pub at-refused : at < length s → Refused ≡ stepOf (drop at s) → rest ≡ malformed
   unfolding contentFrom
   at-refused h e = rw (drop-cons s at 0 h, ← (e ∙ ap stepOf (drop-cons s at 0 h)))
 
@@ -122,7 +145,7 @@ module _ (s : List ℕ) (at : ℕ) where
 
 onContent-first : (p : Piece) (c : Content) (f g : List Piece → List Cell) → ((ps : List Piece) → f (p ∷ ps) ≡ g ps)
     → onContent (withFirst p c) f ≡ onContent c g
-onContent-first p refused f g e = refl
+onContent-first p malformed f g e = refl
 onContent-first p (content ps) f g e = rw (e ps)
 
 -- one turn: the point that was read goes from what is left to what is done

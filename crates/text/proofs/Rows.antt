@@ -1,11 +1,13 @@
 -- The rows of RFC 3629's table as laws of `stepOf`, `two`, `three` and `four`, each under the tests that pick it.
-use mathlib.Core.Path.{_≡_, refl, sym, ap}
+use mathlib.Core.Path.{_≡_, refl, sym, ap, _∙_}
 use mathlib.Core.List.{List, [], _∷_}
 use mathlib.Core.Bool.{true, false, _&&_, and-false}
 use Prim.Native.Nat.{ℕ, _+_, _*_, _%_, _≤_, _<_}
 use native.Mathlib.Omega.{arith}
 use lib.ListN.{length, getD, drop, length-drop, drop-of-length-le}
 use Rattle.ascii.proofs.Class.{inside, below, above}
+use borrow.Author.Tests.{ltb-true}
+use lib.Dec.{ltb}
 use Rattle.text.proofs.Cut.{cut, cut2, cut3}
 use Rattle.text.specs.declared.utf8.Step.the-variants.{Point, Refused}
 use Rattle.ascii.specs.Class.{within}
@@ -31,6 +33,10 @@ four-short a low high (b ∷ []) h = refl
 four-short a low high (b ∷ c ∷ []) h = refl
 four-short a low high (b ∷ c ∷ d ∷ l) h = absurd (omega arith)
 
+-- a byte from n on is past every row that ends before n
+past : (a n : ℕ) → n ≤ a → (low high : ℕ) → ltb high n ≡ true → within low high a ≡ false
+past a n h low high e = let k = ltb-true high n e in above low high a (omega arith)
+
 module _ (a : ℕ) (l : List ℕ) where
   pub row-1 : a ≤ 0x7f → stepOf (a ∷ l) ≡ Point a 1
   unfolding stepOf pick
@@ -39,109 +45,55 @@ module _ (a : ℕ) (l : List ℕ) where
   pub row-gap : 0x7f < a → a < 0xc2 → stepOf (a ∷ l) ≡ Refused
   unfolding stepOf pick
   row-gap h k =
-      rw (
-        above 0 0x7f a h,
-        below 0xc2 0xdf a k,
-        below 0xe0 0xe0 a (omega arith),
-        below 0xe1 0xec a (omega arith),
-        below 0xed 0xed a (omega arith),
-        below 0xee 0xef a (omega arith),
-        below 0xf0 0xf0 a (omega arith),
-        below 0xf1 0xf3 a (omega arith),
-        below 0xf4 0xf4 a (omega arith),
-      )
+      let before : (low high : ℕ) → 0xc2 ≤ low → within low high a ≡ false = λ low high j. below low high a (omega arith) in
+      rw (above 0 0x7f a h, before 0xc2 0xdf (omega arith), before 0xe0 0xe0 (omega arith), before 0xe1 0xec (omega arith))
+      (rw (before 0xed 0xed (omega arith), before 0xee 0xef (omega arith), before 0xf0 0xf0 (omega arith), before 0xf1 0xf3 (omega arith))
+      (rw (before 0xf4 0xf4 (omega arith))))
 
   pub row-2 : 0xc2 ≤ a → a ≤ 0xdf → stepOf (a ∷ l) ≡ two a l
   unfolding stepOf pick
   row-2 h k = rw (above 0 0x7f a (omega arith), inside 0xc2 0xdf a h k)
 
   pub row-e0 : a ≡ 0xe0 → stepOf (a ∷ l) ≡ three a 0xa0 0xbf l
-  unfolding stepOf pick
-  row-e0 e = rw (above 0 0x7f a (omega arith), above 0xc2 0xdf a (omega arith), inside 0xe0 0xe0 a (omega arith) (omega arith))
+  unfolding stepOf within pick
+  row-e0 e = rw e
 
   pub row-e1 : 0xe1 ≤ a → a ≤ 0xec → stepOf (a ∷ l) ≡ three a 0x80 0xbf l
   unfolding stepOf pick
-  row-e1 h k = rw (above 0 0x7f a (omega arith), above 0xc2 0xdf a (omega arith), above 0xe0 0xe0 a h, inside 0xe1 0xec a h k)
+  row-e1 h k = let p = past a 0xe1 h in rw (p 0 0x7f refl, p 0xc2 0xdf refl, p 0xe0 0xe0 refl, inside 0xe1 0xec a h k)
 
   pub row-ed : a ≡ 0xed → stepOf (a ∷ l) ≡ three a 0x80 0x9f l
-  unfolding stepOf pick
-  row-ed e =
-      rw (
-        above 0 0x7f a (omega arith),
-        above 0xc2 0xdf a (omega arith),
-        above 0xe0 0xe0 a (omega arith),
-        above 0xe1 0xec a (omega arith),
-        inside 0xed 0xed a (omega arith) (omega arith),
-      )
+  unfolding stepOf within pick
+  row-ed e = rw e
 
   pub row-ee : 0xee ≤ a → a ≤ 0xef → stepOf (a ∷ l) ≡ three a 0x80 0xbf l
   unfolding stepOf pick
   row-ee h k =
-      rw (
-        above 0 0x7f a (omega arith),
-        above 0xc2 0xdf a (omega arith),
-        above 0xe0 0xe0 a (omega arith),
-        above 0xe1 0xec a (omega arith),
-        above 0xed 0xed a h,
-        inside 0xee 0xef a h k,
-      )
+      let p = past a 0xee h in
+      rw (p 0 0x7f refl, p 0xc2 0xdf refl, p 0xe0 0xe0 refl, p 0xe1 0xec refl, p 0xed 0xed refl, inside 0xee 0xef a h k)
 
   pub row-f0 : a ≡ 0xf0 → stepOf (a ∷ l) ≡ four a 0x90 0xbf l
+  unfolding stepOf within pick
+  row-f0 e = rw e
+
+  -- the rows before that of 0xf1
+  past-f0 : 0xf1 ≤ a → stepOf (a ∷ l) ≡ pick (within 0xf1 0xf3 a) (four a 0x80 0xbf l) (pick (within 0xf4 0xf4 a) (four a 0x80 0x8f l) Refused)
   unfolding stepOf pick
-  row-f0 e =
-      rw (
-        above 0 0x7f a (omega arith),
-        above 0xc2 0xdf a (omega arith),
-        above 0xe0 0xe0 a (omega arith),
-        above 0xe1 0xec a (omega arith),
-        above 0xed 0xed a (omega arith),
-        above 0xee 0xef a (omega arith),
-        inside 0xf0 0xf0 a (omega arith) (omega arith),
-      )
+  past-f0 h =
+      let p = past a 0xf1 h in
+      rw (p 0 0x7f refl, p 0xc2 0xdf refl, p 0xe0 0xe0 refl, p 0xe1 0xec refl, p 0xed 0xed refl, p 0xee 0xef refl, p 0xf0 0xf0 refl)
 
   pub row-f1 : 0xf1 ≤ a → a ≤ 0xf3 → stepOf (a ∷ l) ≡ four a 0x80 0xbf l
-  unfolding stepOf pick
-  row-f1 h k =
-      rw (
-        above 0 0x7f a (omega arith),
-        above 0xc2 0xdf a (omega arith),
-        above 0xe0 0xe0 a (omega arith),
-        above 0xe1 0xec a (omega arith),
-        above 0xed 0xed a (omega arith),
-        above 0xee 0xef a (omega arith),
-        above 0xf0 0xf0 a h,
-        inside 0xf1 0xf3 a h k,
-      )
+  unfolding pick
+  row-f1 h k = past-f0 h ∙ rw (inside 0xf1 0xf3 a h k)
 
   pub row-f4 : a ≡ 0xf4 → stepOf (a ∷ l) ≡ four a 0x80 0x8f l
-  unfolding stepOf pick
-  row-f4 e =
-      rw (
-        above 0 0x7f a (omega arith),
-        above 0xc2 0xdf a (omega arith),
-        above 0xe0 0xe0 a (omega arith),
-        above 0xe1 0xec a (omega arith),
-        above 0xed 0xed a (omega arith),
-        above 0xee 0xef a (omega arith),
-        above 0xf0 0xf0 a (omega arith),
-        above 0xf1 0xf3 a (omega arith),
-        inside 0xf4 0xf4 a (omega arith) (omega arith),
-      )
+  unfolding stepOf within pick
+  row-f4 e = rw e
 
   pub row-f5 : 0xf4 < a → stepOf (a ∷ l) ≡ Refused
-  unfolding stepOf pick
-  row-f5 h =
-      rw (
-        above 0 0x7f a (omega arith),
-        above 0xc2 0xdf a (omega arith),
-        above 0xe0 0xe0 a (omega arith),
-        above 0xe1 0xec a (omega arith),
-        above 0xed 0xed a (omega arith),
-        above 0xee 0xef a (omega arith),
-        above 0xf0 0xf0 a (omega arith),
-        above 0xf1 0xf3 a (omega arith),
-        above 0xf4 0xf4 a h,
-      )
+  unfolding pick
+  row-f5 h = past-f0 (omega arith) ∙ rw (above 0xf1 0xf3 a (omega arith), above 0xf4 0xf4 a h)
 
 -- The same at a place of a list, as the code meets it.
 module _ (s : List ℕ) (at : ℕ) where

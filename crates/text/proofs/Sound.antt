@@ -2,7 +2,6 @@
 -- put together from points are read as.
 use mathlib.Core.Path.{_≡_, refl, sym, ap, subst, _∙_}
 use mathlib.Core.List.{List, [], _∷_, _++_}
-use mathlib.Core.Bool.{Bool, true, false}
 use Prim.Native.Nat.{ℕ, zero, suc, _+_, _-_}
 use native.Mathlib.Nat.{add-zero, add-suc, suc-add}
 use native.Mathlib.Omega.{arith}
@@ -10,73 +9,10 @@ use lib.ListN.{length, take, drop, take-append-drop}
 use lib.Seq.{drop-nil, length-take-le, take-append-seam, drop-append-seam}
 use Rattle.text.specs.declared.utf8.Step.{Step}
 use Rattle.text.specs.declared.utf8.Step.the-variants.{Point, Refused}
-use Rattle.ascii.specs.Pick.{pick}
-use Rattle.text.specs.Utf8.{two, three, four, stepOf}
-use Rattle.text.specs.Content.{Piece, Content, refused, content, withFirst, onStep, contentFrom, contentOf, bytesOf}
+use Rattle.text.specs.Utf8.{stepOf}
+use Rattle.text.specs.Content.{Piece, Content, malformed, content, withFirst, onStep, contentFrom, contentOf, bytesOf}
 use Rattle.text.specs.Neat.{All}
-use Rattle.text.proofs.Points.{point-good, unroll-list}
-
--- ---- a point is read from its own bytes, whatever follows
-
-record Same (x : Step) (y : ℕ → Step) : Type 0 where
-  get : (c n : ℕ) → x ≡ Point c n → y n ≡ Point c n
-
-same-refused : (y : ℕ → Step) → Same Refused y
-same-refused y = record { get = λ c n e. absurd (let z : _≡_ {A = ℕ} 0 1 = cc in omega arith) }
-
-same-pick : (t : Bool) {x x′ : Step} {y y′ : ℕ → Step} → Same x y → Same x′ y′ → Same (pick t x x′) (λ n. pick t (y n) (y′ n))
-unfolding pick
-same-pick true p q = p
-same-pick false p q = q
-
-same-one : (c k : ℕ) (y : ℕ → Step) → y k ≡ Point c k → Same (Point c k) y
-same-one c k y e = record { get = λ d n f. let g : k ≡ n = cc in subst (λ (m : ℕ). y m ≡ Point d n) g (e ∙ f) }
-
-same-point : (t : Bool) (c k : ℕ) (y : ℕ → Step) → y k ≡ pick t (Point c k) Refused → Same (pick t (Point c k) Refused) y
-unfolding pick
-same-point true c k y e = same-one c k y e
-same-point false c k y e = same-refused y
-
-module _ (r : List ℕ) (a : ℕ) where
-  same-two : (l : List ℕ) → Same (two a l) (λ n. two a (take (n - 1) l ++ r))
-  unfolding two
-  same-two [] = same-refused _
-  same-two (b ∷ l) = same-point _ _ 2 _ refl
-
-  same-three : (low high : ℕ) (l : List ℕ) → Same (three a low high l) (λ n. three a low high (take (n - 1) l ++ r))
-  unfolding three
-  same-three low high [] = same-refused _
-  same-three low high (b ∷ []) = same-refused _
-  same-three low high (b ∷ c ∷ l) = same-point _ _ 3 _ refl
-
-  same-four : (low high : ℕ) (l : List ℕ) → Same (four a low high l) (λ n. four a low high (take (n - 1) l ++ r))
-  unfolding four
-  same-four low high [] = same-refused _
-  same-four low high (b ∷ []) = same-refused _
-  same-four low high (b ∷ c ∷ []) = same-refused _
-  same-four low high (b ∷ c ∷ d ∷ l) = same-point _ _ 4 _ refl
-
-same-step : (r : List ℕ) (a : ℕ) (l : List ℕ) → Same (stepOf (a ∷ l)) (λ n. stepOf (a ∷ (take (n - 1) l ++ r)))
-unfolding stepOf
-same-step r a l =
-    same-pick _ (same-one a 1 _ refl)
-    (same-pick _ (same-two r a l)
-    (same-pick _ (same-three r a _ _ l)
-    (same-pick _ (same-three r a _ _ l)
-    (same-pick _ (same-three r a _ _ l)
-    (same-pick _ (same-three r a _ _ l)
-    (same-pick _ (same-four r a _ _ l)
-    (same-pick _ (same-four r a _ _ l)
-    (same-pick _ (same-four r a _ _ l) (same-refused _)))))))))
-
-pub own-bytes : (r l : List ℕ) (c n : ℕ) → Point c n ≡ stepOf l → stepOf (take n l ++ r) ≡ Point c n
-own-bytes r [] c n e = absurd (let h = point-good [] c n e in omega arith)
-own-bytes r (a ∷ l) c zero e = absurd (let h = point-good (a ∷ l) c zero e in omega arith)
-own-bytes r (a ∷ l) c (suc m) e =
-    let f : suc m - 1 ≡ m = omega arith in
-    rw f at (same-step r a l .get c (suc m) (sym e))
-
--- ---- points and bytes
+use Rattle.text.proofs.Points.{point-good, own-bytes, unroll-list}
 
 -- a point that is well-formed: its bytes are read as it, whatever follows
 abbrev pub Sound : Piece → Type 0
@@ -106,13 +42,13 @@ pub record Read (o : ℕ) (l : List ℕ) (ps : List Piece) : Type 0 where
   pub places : placed o ps ≡ ps
 
 abbrev Told : ℕ → List ℕ → Content → Type 0
-Told o l refused = Unit {0}
+Told o l malformed = Unit {0}
 Told o l (content ps) = Read o l ps
 
 told-first : (o : ℕ) (l r : List ℕ) (p : Piece) (c : Content) → Sound p → p .bytes ++ r ≡ l → p .at ≡ o
     → Told (o + length (p .bytes)) r c → Told o l (withFirst p c)
 unfolding bytesOf
-told-first o l r p refused s e f t = tt
+told-first o l r p malformed s e f t = tt
 told-first o l r p (content ps) s e f t =
     record {
       sound = (s, t .sound);
@@ -121,7 +57,7 @@ told-first o l r p (content ps) s e f t =
     }
 
 told-step : (o a : ℕ) (l : List ℕ) (x : Step) → x ≡ stepOf (a ∷ l) → ((k : ℕ) → Told (suc o + k) (drop k l) (contentFrom (suc o) k l))
-    → Told o (a ∷ l) (onStep x (λ c n. withFirst (record { at = o; code = c; bytes = take n (a ∷ l) }) (contentFrom (suc o) (n - 1) l)) refused)
+    → Told o (a ∷ l) (onStep x (λ c n. withFirst (record { at = o; code = c; bytes = take n (a ∷ l) }) (contentFrom (suc o) (n - 1) l)))
 told-step o a l Refused e ih = tt
 told-step o a l (Point c zero) e ih = absurd (let h = point-good (a ∷ l) c zero e in omega arith)
 told-step o a l (Point c (suc m)) e ih =

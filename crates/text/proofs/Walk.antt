@@ -6,14 +6,17 @@ use Prim.Native.Nat.{ℕ, _+_, _≤_, _<_}
 use native.Mathlib.Omega.{arith}
 use borrow.Author.Tests.{le-leb, lt-leb}
 use lib.ListN.{length, take, drop, set, replicate, length-append, length-drop, length-map}
-use lib.Seq.{paste, length-take-le}
+use lib.Seq.{length-take-le}
+use Rattle.ascii.specs.Pick.{pick}
+use Rattle.ascii.specs.Area.{put}
+use Rattle.ascii.proofs.Area.{put-sets, put-then}
 use Rattle.text.specs.declared.utf8.Step.the-variants.{Point, Refused}
 use Rattle.text.specs.declared.area.Text.{Text}
 use Rattle.answer.specs.declared.reason.Reason.the-variants.{NoReason, Long, Utf8}
 use Rattle.text.specs.Utf8.{stepOf}
-use Rattle.text.specs.Content.{Piece, Cell, Content, refused, content, contentOf, cells}
+use Rattle.text.specs.Content.{Piece, Cell, Content, malformed, content, contentOf, cells}
 use Rattle.text.specs.Answer.{padded, kept, refusal, onContent, answer}
-use Rattle.text.proofs.Padded.{length-padded, padded-set, padded-paste}
+use Rattle.text.proofs.Padded.{length-padded, padded-put}
 use Rattle.text.proofs.Modes.{space}
 use Rattle.text.proofs.Points.{rest, point-fits, at-refused, at-last, advance, texts, texts-cells, length-cells}
 
@@ -31,15 +34,15 @@ pub record State (f : List Piece → List Cell) (whole : Text) (s out : List ℕ
   pub left : onContent (rest s at) (λ ps. done ++ f ps) ≡ whole
 
 pub answer-short : (f : List Piece → List Cell) (s : List ℕ) → length s ≤ 1024 → onContent (contentOf s) f ≡ answer f s
-unfolding answer
+unfolding answer pick
 answer-short f s h = rw (le-leb (length s) 1024 h)
 
 pub answer-long : (f : List Piece → List Cell) (s : List ℕ) → 1024 < length s → refusal Long ≡ answer f s
-unfolding answer
+unfolding answer pick
 answer-long f s h = rw (lt-leb (length s) 1024 h)
 
 same-content : (c : Content) (f g : List Piece → List Cell) → ((ps : List Piece) → f ps ≡ g ps) → onContent c f ≡ onContent c g
-same-content refused f g e = refl
+same-content malformed f g e = refl
 same-content (content ps) f g e = ap kept (e ps)
 
 pub begin : (f g : List Piece → List Cell) (s : List ℕ) → ((ps : List Piece) → f ps ≡ g ps) → length s ≤ 1024
@@ -72,7 +75,7 @@ module _ {f : List Piece → List Cell} {whole : Text} {s out : List ℕ} {n at 
 
   module _ (c k : ℕ) (e : Point c k ≡ stepOf (drop at s)) where
     pub fits : (1 ≤ k) × (at + k ≤ length s)
-    fits = let h = point-fits s at c k e in let p = i .place in (h .0, omega arith)
+    fits = point-fits s at (i .place) c k e
 
     -- a point that is passed over
     pub pass : (g : List Piece → List Cell) → ((ps : List Piece) → f (pieceAt s at c k ∷ ps) ≡ g ps) → State g whole s out n (at + k)
@@ -88,42 +91,43 @@ module _ {f : List Piece → List Cell} {whole : Text} {s out : List ℕ} {n at 
           left = advance s at c k _ _ e (λ ps. ap (λ (l : List Cell). i .done ++ l) (h ps)) ∙ i .left;
         }
 
-    -- a point that is kept, behind pre
-    pub put : (g : List Piece → List Cell) (pre : List Cell) (mid : List ℕ) (m : ℕ)
-        → ((ps : List Piece) → f (pieceAt s at c k ∷ ps) ≡ pre ++ cells at (take k (drop at s)) ++ g ps)
-        → length (i .done ++ pre) ≡ m → m ≤ at → mid ≡ padded (texts (i .done ++ pre))
-        → State g whole s (paste mid m (drop at s) k) (m + k) (at + k)
-    put g pre mid m h p r q =
+    -- cells that are kept of the point
+    keep : (g : List Piece → List Cell) (cs : List Cell) (m : ℕ) → ((ps : List Piece) → f (pieceAt s at c k ∷ ps) ≡ cs ++ g ps)
+        → n + length cs ≡ m → m ≤ at + k → State g whole s (put out n (texts cs)) m (at + k)
+    keep g cs m h p r =
         let z = fits in
-        let b = take k (drop at s) in
-        let t : k ≤ length (drop at s) = simp length-drop (omega arith) in
+        let u : n ≡ length (texts (i .done)) = simp length-map (sym (i .count)) in
+        let v : n + length (texts cs) ≤ 1024 = simp length-map (let x = i .short in omega arith) in
         record {
-          done = i .done ++ pre ++ cells at b;
+          done = i .done ++ cs;
           place = z .1;
-          room = omega arith;
+          room = r;
           short = i .short;
-          count = simp (length-append, length-cells, length-take-le k (drop at s) t) (let w = simp length-append at p in omega arith);
-          area =
-              rw q
-              (padded-paste (texts (i .done ++ pre)) (drop at s) m k (simp length-map (sym p)) (omega arith) t
-              ∙ ap padded (sym (map-append (λ (x : Cell). x .byte) (i .done ++ pre) (cells at b) ∙ ap (λ (l : List ℕ). texts (i .done ++ pre) ++ l) (texts-cells at b))));
-          left = advance s at c k _ _ e (λ ps. ap (λ (l : List Cell). i .done ++ l) (h ps) ∙ simp append-assoc) ∙ i .left;
+          count = simp length-append (let w = i .count in omega arith);
+          area = rw (i .area) (padded-put (texts (i .done)) n (texts cs) u v ∙ ap padded (sym (map-append (λ (x : Cell). x .byte) (i .done) cs)));
+          left = advance s at c k _ _ e (λ ps. ap (λ (l : List Cell). i .done ++ l) (h ps) ∙ sym (append-assoc (i .done) cs (g ps))) ∙ i .left;
         }
 
-    -- the same, where nothing or a space comes before it, for the area as a call has left it
-    pub add : (g : List Piece → List Cell) (new : List ℕ) → new ≡ paste out n (drop at s) k
-        → ((ps : List Piece) → f (pieceAt s at c k ∷ ps) ≡ cells at (take k (drop at s)) ++ g ps)
-        → State g whole s new (n + k) (at + k)
-    add g new q h = rw q (put g [] out n h (rw append-nil (i .count)) (i .room) (rw append-nil (i .area)))
+    abbrev own : List ℕ
+    own = take k (drop at s)
 
-    pub add-spaced : (g : List Piece → List Cell) (o : ℕ) (new : List ℕ) → n < at → new ≡ paste (set out n 0x20) (n + 1) (drop at s) k
-        → ((ps : List Piece) → f (pieceAt s at c k ∷ ps) ≡ space o ∷ cells at (take k (drop at s)) ++ g ps)
-        → State g whole s new (n + 1 + k) (at + k)
+    size : length (cells at own) ≡ k
+    size = let z = fits in length-cells at own ∙ length-take-le k (drop at s) (simp length-drop (omega arith))
+
+    -- the point, and a space before it, in the area as a call has left it
+    pub add : (g : List Piece → List Cell) (new : List ℕ) → new ≡ put out n own
+        → ((ps : List Piece) → f (pieceAt s at c k ∷ ps) ≡ cells at own ++ g ps) → State g whole s new (n + k) (at + k)
+    add g new q h =
+        let y = i .room in
+        rw (q ∙ ap (put out n) (sym (texts-cells at own))) (keep g (cells at own) (n + k) h (rw size) (omega arith))
+
+    pub add-spaced : (g : List Piece → List Cell) (o : ℕ) (new : List ℕ) → n < at → new ≡ put (set out n 0x20) (n + 1) own
+        → ((ps : List Piece) → f (pieceAt s at c k ∷ ps) ≡ space o ∷ cells at own ++ g ps) → State g whole s new (n + 1 + k) (at + k)
     add-spaced g o new r q h =
-        let u : n ≡ length (texts (i .done)) = simp length-map (sym (i .count)) in
-        let v : length (i .done ++ space o ∷ []) ≡ n + 1 = simp length-append (let z = i .count in omega arith) in
+        let y = area-long in
         let w = i .place in
         let x = i .short in
-        rw q
-        (put g (space o ∷ []) (set out n 0x20) (n + 1) h v (omega arith)
-        (rw (i .area, padded-set (texts (i .done)) n 0x20 u (omega arith)) (ap padded (sym (map-append (λ (y : Cell). y .byte) (i .done) (space o ∷ []))))))
+        let v : n + 1 ≤ length out = omega arith in
+        let a : new ≡ put out n (0x20 ∷ own) = q ∙ ap (λ (l : List ℕ). put l (n + 1) own) (put-sets out n (0x20 ∷ []) v) ∙ put-then out n (0x20 ∷ []) own v in
+        rw (a ∙ ap (λ (l : List ℕ). put out n (0x20 ∷ l)) (sym (texts-cells at own)))
+        (keep g (space o ∷ cells at own) (n + 1 + k) h (let z = size in omega arith) (omega arith))

@@ -1,25 +1,25 @@
 -- Which contents can be read, and what normalising and stripping hand back.
 use Prim.Native.Nat.{ℕ, _-_}
 use mathlib.Core.List.{List, [], _++_, map}
-use mathlib.Core.Bool.{cond}
 use lib.Dec.{leb}
 use lib.ListN.{length, take, replicate}
+use Rattle.ascii.specs.Pick.{pick}
 use Rattle.text.specs.declared.area.Text.{Text}
 use Rattle.text.specs.declared.area.Kept.{Kept}
 use Rattle.text.specs.declared.reading.Reading.{Reading}
 use Rattle.text.specs.declared.reading.Reading.the-variants.{AsItStands, Normalised, Stripped}
 use Rattle.answer.specs.declared.reason.Reason.{Reason}
 use Rattle.answer.specs.declared.reason.Reason.the-variants.{NoReason, Long, Utf8}
-use Rattle.text.specs.Content.{Content, refused, content, contentOf, Cell, Piece}
+use Rattle.text.specs.Content.{Content, malformed, content, contentOf, Cell, Piece}
 use Rattle.text.specs.Words.{normal, stripped}
 
 abbrev pub whyRefused : Content → Reason
-whyRefused refused = Utf8
+whyRefused malformed = Utf8
 whyRefused (content ps) = NoReason
 
 -- why a content can't be read: it is too long, or else not well-formed
 unfoldable pub readableOf : List ℕ → Reason
-readableOf s = cond (leb (length s) 1024) (whyRefused (contentOf s)) Long
+readableOf s = pick (leb (length s) 1024) (whyRefused (contentOf s)) Long
 
 -- a list in an area of 1,024 numbers, with zeros after it
 unfoldable pub padded : List ℕ → List ℕ
@@ -32,11 +32,11 @@ unfoldable pub refusal : Reason → Text
 refusal r = record { reason = r; len = 0; bytes = padded [] }
 
 abbrev pub onContent : Content → (List Piece → List Cell) → Text
-onContent refused f = refusal Utf8
+onContent malformed f = refusal Utf8
 onContent (content ps) f = kept (f ps)
 
 unfoldable pub answer : (List Piece → List Cell) → List ℕ → Text
-answer f s = cond (leb (length s) 1024) (onContent (contentOf s) f) (refusal Long)
+answer f s = pick (leb (length s) 1024) (onContent (contentOf s) f) (refusal Long)
 
 unfoldable pub normalText : List ℕ → Text
 normalText s = answer normal s

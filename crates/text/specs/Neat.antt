@@ -1,7 +1,7 @@
 -- The words in which the laws of the normalised and the stripped text are said.
 use mathlib.Core.Path.{_≡_}
 use Prim.Native.Nat.{ℕ, suc, _<_}
-use mathlib.Core.List.{List, [], _∷_, map}
+use mathlib.Core.List.{List, [], _∷_}
 use mathlib.Core.Bool.{true, false}
 use lib.ListN.{length, getD}
 use Rattle.text.specs.declared.area.Text.{Text}
@@ -31,9 +31,6 @@ pub record Lone (cs : List ℕ) (i : ℕ) : Type 0 where
 -- so each white point: none stands at an end, no two stand together, and each is a space
 abbrev pub Neat : List ℕ → Type 0
 Neat cs = (i : ℕ) → i < length cs → isWhite (getD cs i 0) ≡ true → Lone cs i
-
-abbrev pub codes : List Piece → List ℕ
-codes ps = map (λ (p : Piece). p .code) ps
 
 -- a content as its own text
 abbrev pub itself : List ℕ → Text

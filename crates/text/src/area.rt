@@ -2,7 +2,7 @@
 ghost use mathlib.Core.Path.{_≡_};
 ghost use Prim.Native.Nat.{_+_, _≤_};
 ghost use lib.ListN.{length, take, drop};
-ghost use lib.Seq.{paste};
+ghost use Rattle.ascii.specs.Area.{put};
 ghost use Rattle.text.specs.Answer.{refusal, textIn};
 use answer::Reason;
 
@@ -39,7 +39,7 @@ pub(crate) fn refuse(reason: Reason, out: &mut [u8; 1024]) -> Kept
 // The k bytes from `at` go to the area, from n on.
 pub(crate) fn copy_all(s: &[u8], at: usize, k: usize, out: &mut [u8; 1024], n: usize)
     requires { ⌜ (at + k ≤ length (now s)) × (n + k ≤ 1024) × (length (now out) ≡ 1024) ⌝ }
-    ensures { λ _. ⌜ now (out .exit) ≡ paste (now (out .entry)) n (drop at (now (s .entry))) k ⌝ }
+    ensures { λ _. ⌜ now (out .exit) ≡ put (now (out .entry)) n (take k (drop at (now (s .entry)))) ⌝ }
 {
     let mut j: usize = 0;
     while j < k {
@@ -51,7 +51,7 @@ pub(crate) fn copy_all(s: &[u8], at: usize, k: usize, out: &mut [u8; 1024], n: u
 // The same for a code point, whose first byte goes at once.
 pub(crate) fn copy(s: &[u8], at: usize, k: usize, out: &mut [u8; 1024], n: usize)
     requires { ⌜ (1 ≤ k) × (at + k ≤ length (now s)) × (n + k ≤ 1024) × (length (now out) ≡ 1024) ⌝ }
-    ensures { λ _. ⌜ now (out .exit) ≡ paste (now (out .entry)) n (drop at (now (s .entry))) k ⌝ }
+    ensures { λ _. ⌜ now (out .exit) ≡ put (now (out .entry)) n (take k (drop at (now (s .entry)))) ⌝ }
 {
     if k == 1 {
         out[n] = s[at];

@@ -5,7 +5,7 @@ use native.Mathlib.Omega.{arith}
 use borrow.Author.Needs.{needs}
 use lib.ListN.{length, drop}
 use Rattle.ascii.specs.Class.{isLetter, all}
-use Rattle.codice.proofs.Laws.{all-more, all-here, all-end}
+use Rattle.ascii.proofs.Class.{all-next, all-end}
 use Rattle.codice.proofs.groups.all_letters.Statement.{statement}
 use Rattle.codice.proofs.groups.all_letters.Tie as tie
 
@@ -34,10 +34,10 @@ loop-less : tie.Need-loop-less Inv-loop μ-loop
 loop-less c = omega arith
 
 loop-again : tie.Need-loop-again Inv-loop μ-loop
-loop-again c = c .before .before .before .before .loop .inv ∙ all-more isLetter _ _ (c .before .before .before .loop-test .taken) (sym (c .before .is-letter .ensures) ∙ c .if1 .taken)
+loop-again c = c .before .before .before .before .loop .inv ∙ all-next isLetter _ _ (c .before .before .before .loop-test .taken) ∙ rw (sym (c .before .is-letter .ensures) ∙ c .if1 .taken)
 
 returns : tie.Need-returns Inv-loop μ-loop
-returns c = sym (c .before .before .before .before .loop .inv ∙ all-here isLetter _ _ (c .before .before .before .loop-test .taken) (sym (c .before .is-letter .ensures) ∙ c .if1 .left))
+returns c = sym (c .before .before .before .before .loop .inv ∙ all-next isLetter _ _ (c .before .before .before .loop-test .taken) ∙ rw (sym (c .before .is-letter .ensures) ∙ c .if1 .left))
 
 returns-2 : tie.Need-returns-2 Inv-loop μ-loop
 returns-2 c = sym (c .before .loop .inv ∙ all-end isLetter _ _ (c .loop-test .left))

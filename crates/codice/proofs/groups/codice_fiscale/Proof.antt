@@ -1,14 +1,13 @@
 -- `codice::groups::codice_fiscale` meets its contract. Assumes nothing.
-use mathlib.Core.Path.{sym, subst, _∙_}
+use mathlib.Core.Path.{sym, subst}
 use mathlib.Core.List.{List}
 use Prim.Native.Nat.{ℕ}
 use native.Mathlib.Omega.{arith}
 use denote.Ref.{now}
-use lib.ListN.{getD}
-use Rattle.forms.specs.declared.form.Fault.the-variants.{Fits, At}
+use Rattle.ascii.specs.Pick.{pick}
 use Rattle.codice.specs.declared.points.Count.{Count}
-use Rattle.codice.specs.Points.{Stand, Taken}
-use Rattle.codice.proofs.Walk.{sixteen, eleven, another, picked-first, picked-second}
+use Rattle.codice.specs.Inner.{Stand, Taken}
+use Rattle.codice.proofs.Walk.{sixteen, eleven, another}
 use borrow.Author.Needs.{needs}
 use Rattle.codice.proofs.groups.codice_fiscale.Statement.{statement}
 use Rattle.codice.proofs.groups.codice_fiscale.Tie as tie
@@ -52,7 +51,7 @@ failing-group-requires : tie.Need-failing-group-requires
 failing-group-requires c κs = let t = taken (c .before .before .before) in (t .room, t .room2)
 
 returns-2 : tie.Need-returns-2
-returns-2 c = c .failing-group .ensures ∙ sym (sixteen _ _ _ _ (taken (c .before .before .before .before)) (c .before .before .before .if1 .taken))
+returns-2 c = sixteen _ _ _ _ (taken (c .before .before .before .before)) (c .before .before .before .if1 .taken) (c .failing-group .ensures)
 
 sub-castable-integer : tie.Need-sub-castable-integer
 sub-castable-integer c = search needs
@@ -67,13 +66,15 @@ castable-integer-requires : tie.Need-castable-integer-requires
 castable-integer-requires c κs = search needs
 
 returns-3 : tie.Need-returns-3
-returns-3 c = let d = c .before .before .before .before .before .before in picked-first Fits (At (getD (A d) 0 0)) (c .before .castable-integer .ensures) (c .if3 .taken) ∙ sym (eleven _ _ _ _ (taken d) (c .before .before .before .before .if2 .taken))
+unfolding pick
+returns-3 c = let d = c .before .before .before .before in rw (c .if3 .taken) at (eleven _ _ _ _ (taken (d .before .before)) (d .if2 .taken) (c .before .castable-integer .ensures))
 
 array-read-t16 : tie.Need-array-read-t16
 array-read-t16 c = search needs
 
 returns-4 : tie.Need-returns-4
-returns-4 c = let d = c .before .before .before .before .before .before in picked-second Fits (At (getD (A d) 0 0)) (c .before .castable-integer .ensures) (c .if3 .left) ∙ sym (eleven _ _ _ _ (taken d) (c .before .before .before .before .if2 .taken))
+unfolding pick
+returns-4 c = let d = c .before .before .before .before in rw (c .if3 .left) at (eleven _ _ _ _ (taken (d .before .before)) (d .if2 .taken) (c .before .castable-integer .ensures))
 
 returns-5 : tie.Need-returns-5
 returns-5 c = sym (another _ _ _ _ (taken (c .before .before)) (c .before .if1 .left) (c .if2 .left))

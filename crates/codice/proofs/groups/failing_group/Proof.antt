@@ -1,5 +1,5 @@
 -- `codice::groups::failing_group` meets its contract: the groups one after another. Assumes nothing.
-use mathlib.Core.Path.{_≡_, refl, _∙_}
+use mathlib.Core.Path.{refl, _∙_}
 use mathlib.Core.List.{List}
 use Prim.Native.Nat.{ℕ}
 use native.Mathlib.Omega.{arith}
@@ -7,7 +7,8 @@ use denote.Ref.{now}
 use lib.ListN.{drop}
 use Rattle.ascii.specs.Class.{isDigit, isLetter}
 use Rattle.forms.specs.declared.form.Fault.{Fault}
-use Rattle.codice.specs.Codice.{group, anything, groupsOf16, failing}
+use Rattle.codice.specs.Codice.{group, anything, groupsOf16}
+use Rattle.codice.specs.Inner.{Answered}
 use Rattle.codice.proofs.Laws.{one-point, group-ok, group-bad, group-none}
 use borrow.Author.Needs.{needs}
 use Rattle.codice.proofs.groups.failing_group.Statement.{statement}
@@ -37,22 +38,22 @@ abbrev up6 : tie.Then6 → tie.Then1
 up6 c = up5 (c .before .before .before)
 
 -- what the groups that are left answer is the answer
-then1 : (c : tie.Then1) {x : Fault} → x ≡ failing (drop 1 groupsOf16) (P c) (A c) → x ≡ failing groupsOf16 (P c) (A c)
+then1 : (c : tie.Then1) {x : Fault} → Answered (drop 1 groupsOf16) (P c) (A c) x → Answered groupsOf16 (P c) (A c) x
 then1 c r = group-ok _ _ _ _ (c .before .all-letters .ensures) (c .if1 .taken) r
 
-then2 : (c : tie.Then2) {x : Fault} → x ≡ failing (drop 2 groupsOf16) (P (up2 c)) (A (up2 c)) → x ≡ failing groupsOf16 (P (up2 c)) (A (up2 c))
+then2 : (c : tie.Then2) {x : Fault} → Answered (drop 2 groupsOf16) (P (up2 c)) (A (up2 c)) x → Answered groupsOf16 (P (up2 c)) (A (up2 c)) x
 then2 c r = then1 (up2 c) (group-ok _ _ _ _ (c .before .castable-integer .ensures) (c .if2 .taken) r)
 
-then3 : (c : tie.Then3) {x : Fault} → x ≡ failing (drop 3 groupsOf16) (P (up3 c)) (A (up3 c)) → x ≡ failing groupsOf16 (P (up3 c)) (A (up3 c))
+then3 : (c : tie.Then3) {x : Fault} → Answered (drop 3 groupsOf16) (P (up3 c)) (A (up3 c)) x → Answered groupsOf16 (P (up3 c)) (A (up3 c)) x
 then3 c r = then2 (c .before .before .before) (group-ok _ _ _ _ (c .before .is-letter .ensures ∙ one-point isLetter (P (up3 c)) 8 (omega arith)) (c .if3 .taken) r)
 
 -- the group in which anything may stand passes with the one before it
-then4 : (c : tie.Then4) {x : Fault} → x ≡ failing (drop 5 groupsOf16) (P (up4 c)) (A (up4 c)) → x ≡ failing groupsOf16 (P (up4 c)) (A (up4 c))
+then4 : (c : tie.Then4) {x : Fault} → Answered (drop 5 groupsOf16) (P (up4 c)) (A (up4 c)) x → Answered groupsOf16 (P (up4 c)) (A (up4 c)) x
 then4 c r =
     then3 (c .before .before .before)
     (group-ok _ _ _ _ (c .before .castable-integer2 .ensures) (c .if4 .taken) (group-ok (group 11 13 anything) _ _ _ refl refl r))
 
-then5 : (c : tie.Then5) {x : Fault} → x ≡ failing (drop 6 groupsOf16) (P (up5 c)) (A (up5 c)) → x ≡ failing groupsOf16 (P (up5 c)) (A (up5 c))
+then5 : (c : tie.Then5) {x : Fault} → Answered (drop 6 groupsOf16) (P (up5 c)) (A (up5 c)) x → Answered groupsOf16 (P (up5 c)) (A (up5 c)) x
 then5 c r = then4 (c .before .before .before) (group-ok _ _ _ _ (c .before .is-digit .ensures ∙ one-point isDigit (P (up5 c)) 14 (omega arith)) (c .if5 .taken) r)
 
 sub-all-letters : tie.Need-sub-all-letters

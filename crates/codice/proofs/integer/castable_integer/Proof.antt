@@ -2,10 +2,8 @@
 use mathlib.Core.List.{List}
 use Prim.Native.Nat.{ℕ}
 use mathlib.Core.Path.{_∙_, sym, ap}
-use mathlib.Core.List.{List}
-use Prim.Native.Nat.{ℕ}
 use borrow.Author.Needs.{needs}
-use Rattle.codice.specs.Integer.{unsigned, trimEnd, someDigits}
+use Rattle.codice.specs.Integer.{unsigned, trimEnd, oneOrMoreDigits}
 use Rattle.codice.proofs.Trim.{integer-read}
 use Rattle.codice.proofs.integer.castable_integer.Statement.{statement}
 use Rattle.codice.proofs.integer.castable_integer.Tie as tie
@@ -22,7 +20,7 @@ is-number-requires c κs = search needs
 returns : tie.Need-returns
 returns c =
     c .is-number .ensures
-    ∙ ap (λ (l : List ℕ). someDigits (trimEnd l)) (c .before .past-sign .ensures ∙ ap unsigned (c .before .before .past-white .ensures))
+    ∙ ap (λ (l : List ℕ). oneOrMoreDigits (trimEnd l)) (c .before .past-sign .ensures ∙ ap unsigned (c .before .before .past-white .ensures))
     ∙ sym (integer-read _)
 
 pub castable-integer-spec : {M : Type 1} → statement M

@@ -3,27 +3,21 @@ use mathlib.Core.Path.{_≡_, refl, sym, _∙_}
 use mathlib.Core.Bool.{Bool, _&&_, and-assoc, and-true}
 use mathlib.Core.List.{List}
 use Prim.Native.Nat.{ℕ, _+_, _-_, _≤_, _<_}
-use native.Mathlib.Numerals.{add-one}
 use native.Mathlib.Omega.{arith}
 use lib.Dec.{leb}
-use lib.ListN.{length, getD, drop, drop-of-length-le}
-use lib.Seq.{drop-cons}
+use lib.ListN.{length, getD, drop}
 use Rattle.ascii.specs.Class.{all}
+use Rattle.ascii.proofs.Class.{all-next, all-end}
 use Rattle.text.proofs.Points.{single}
 use Rattle.text.proofs.read.is_ascii.Statement.{statement}
 use Rattle.text.proofs.read.is_ascii.Tie as tie
 
 module _ (s : List ℕ) (ascii : Bool) (i : ℕ) (e : (ascii && all single (drop i s)) ≡ all single s) where
-  step : i < length s → all single (drop i s) ≡ (leb (getD s i 0) 0x7f && all single (drop (i + 1) s))
-  unfolding all
-  step h = rw (add-one, drop-cons s i 0)
-
   next : i < length s → ((ascii && leb (getD s i 0) 0x7f) && all single (drop (i + 1) s)) ≡ all single s
-  next h = and-assoc ascii _ _ ∙ (rw (step h) at e)
+  next h = and-assoc ascii _ _ ∙ (rw (all-next single s i h) at e)
 
   done : length s ≤ i → ascii ≡ all single s
-  unfolding all
-  done h = sym (and-true ascii) ∙ (rw (drop-of-length-le s h) at e)
+  done h = sym (and-true ascii) ∙ (rw (all-end single s i h) at e)
 
 abbrev Inv-loop : tie.InvT-loop
 Inv-loop s ascii₀ i₀ ascii i = (i ≤ length s) × ((ascii && all single (drop i s)) ≡ all single s)

@@ -10,6 +10,7 @@ use denote.Ref.{now}
 use lib.ListN.{length, drop}
 use Rattle.text.specs.declared.utf8.Step.the-variants.{Point}
 use Rattle.answer.specs.declared.reason.Reason.the-variants.{Long, NoReason}
+use Rattle.ascii.specs.Pick.{pick}
 use Rattle.ascii.specs.Class.{all}
 use Rattle.text.specs.Utf8.{stepOf}
 use Rattle.text.specs.Content.{contentOf}
@@ -19,11 +20,11 @@ use Rattle.text.proofs.read.readable.Statement.{statement}
 use Rattle.text.proofs.read.readable.Tie as tie
 
 too-long : (s : List ℕ) → 1024 + 1 ≤ length s → Long ≡ readableOf s
-unfolding readableOf
+unfolding readableOf pick
 too-long s h = rw (lt-leb (length s) 1024 (omega arith))
 
 short : (s : List ℕ) → length s ≤ 1024 → whyRefused (rest s 0) ≡ readableOf s
-unfolding readableOf contentOf
+unfolding readableOf contentOf pick
 short s h = rw (le-leb (length s) 1024 h)
 
 ascii : (s : List ℕ) → length s ≤ 1024 → all single s ≡ true → NoReason ≡ readableOf s
@@ -44,8 +45,8 @@ S c = now (At c .before .before .before .before .before .args .s)
 read : (c : tie.After-known-told Inv-loop μ-loop) → Point (c .before .k .given .0 .0) (c .before .k .given .0 .1 .0) ≡ stepOf (drop (At c .loop .at) (S c))
 read c = sym (c .before .k .given .1) ∙ c .before .before .before .next-point .ensures
 
-fit : (c : tie.After-known-told Inv-loop μ-loop) → (1 ≤ c .before .k .given .0 .1 .0) × (c .before .k .given .0 .1 .0 ≤ length (S c) - At c .loop .at)
-fit c = point-fits (S c) (At c .loop .at) _ _ (read c)
+fit : (c : tie.After-known-told Inv-loop μ-loop) → (1 ≤ c .before .k .given .0 .1 .0) × (At c .loop .at + c .before .k .given .0 .1 .0 ≤ length (S c))
+fit c = point-fits (S c) (At c .loop .at) (At c .loop .inv .0) _ _ (read c)
 
 returns : tie.Need-returns Inv-loop μ-loop
 returns c = too-long _ (omega arith)
