@@ -6,14 +6,15 @@ use Prim.Native.Nat.{ℕ, suc, _+_, _-_, _*_, _/_, _≤_, _<_, min}
 use native.Mathlib.Numerals.{add-one}
 use native.Mathlib.Omega.{arith}
 use lib.Dec.{ltb}
-use lib.ListN.{length, take, drop, set, length-append, length-drop, length-set, drop-of-length-le}
+use lib.ListN.{length, take, drop, set, length-append, length-drop, drop-of-length-le}
 use lib.Seq.{take-all, take-nil, length-take-le}
 use borrow.Author.Tests.{ltb-true, ltb-false}
+use Rattle.ascii.specs.Area.{Put}
+use Rattle.ascii.proofs.Area.{put-stores}
 use Rattle.answer.specs.declared.record.Answer.{Answer}
 use Rattle.answer.specs.Numbers.{verdictNumber, severityNumber, reasonNumber}
-use Rattle.lines.specs.Line.{answerOf}
 use Rattle.lines.specs.Stream.{inTurn, linesOf, split}
-use Rattle.lines.specs.Window.{extent, upto, Stored}
+use Rattle.lines.specs.Window.{extent, upto}
 use Rattle.lines.specs.Batch.{fourNumbers, lineNumbers, batched, numbersOf, spannedOf, BatchRight}
 use Rattle.lines.proofs.Splits.{by, Open, upto-le, split-line, fronted, lines-open, fronted-alone}
 use Rattle.lines.proofs.Feeding.{Feeding, feeding-on, feeding-laid}
@@ -122,7 +123,7 @@ Batching s old new used put = Feeding numbersOf spannedOf s old new used put
 
 module _ (s o new new′ rest : List ℕ) (used put put′ n m : ℕ) (f : Batching s o new used put) (er : rest ≡ take (length s - used) (drop used s))
     (en : n ≡ upto rest) (em : m ≡ min (n + 1) (length rest)) (h : 0 < length rest) (room : put + 4 ≤ length new)
-    (st : Stored new new′ put put′ (lineNumbers (take n rest)) 4) where
+    (st : Put 4 new put (lineNumbers (take n rest)) put′ new′) where
   free : 4 ≤ length o - put
   free = omega (arith, f .size)
 
@@ -151,24 +152,14 @@ module _ (s o new : List ℕ) (used put : ℕ) (f : Batching s o new used put) (
   batch-right =
       let l = feeding-laid numbersOf spannedOf s o new used put f nothing in
       record {
-        wrote = l .wrote;
-        counted = omega (arith, l .counted, all-long);
+        wrote = l .now;
+        counted = omega (arith, l .ends, all-long);
         spanned = omega (arith, f .uses, no-span);
       }
 
 -- ---- four numbers, stored one behind the other
 
-pub put-four : (a : Answer) (l : List ℕ) (at v s w : ℕ) → v ≡ verdictNumber (a .verdict) → s ≡ severityNumber (a .severity) → w ≡ reasonNumber (a .reason)
-    → Stored l (set (set (set (set l at v) (at + 1) (a .rule)) (at + 1 + 1) s) (at + 1 + 1 + 1) w) at (at + 1 + 1 + 1 + 1) (fourNumbers a) 4
+pub put-four : (a : Answer) (l : List ℕ) (at v s w : ℕ) → at + 4 ≤ length l → v ≡ verdictNumber (a .verdict) → s ≡ severityNumber (a .severity) → w ≡ reasonNumber (a .reason)
+    → Put 4 l at (fourNumbers a) (at + 1 + 1 + 1 + 1) (set (set (set (set l at v) (at + 1) (a .rule)) (at + 1 + 1) s) (at + 1 + 1 + 1) w)
 unfolding fourNumbers
-put-four a l at v s w ev es ew =
-    record {
-      wrote = rw (← ev, ← es, ← ew) (simp add-one);
-      next = omega arith;
-      short = omega arith;
-      size = simp length-set;
-    }
-
-pub put-line-numbers : (line o o′ : List ℕ) (at r : ℕ) (a : Answer) → a ≡ answerOf line → Stored o o′ at r (fourNumbers a) 4 → Stored o o′ at r (lineNumbers line) 4
-unfolding lineNumbers
-put-line-numbers line o o′ at r a e st = rw (← e) st
+put-four a l at v s w h ev es ew = rw (← ev, ← es, ← ew) (put-stores (simp add-one) (omega arith) (omega arith) (omega arith))

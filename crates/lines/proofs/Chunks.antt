@@ -8,12 +8,13 @@ use lib.Dec.{leb, ltb}
 use lib.ListN.{length, take, drop, length-append, length-take, length-drop}
 use lib.Seq.{take-nil, drop-drop}
 use borrow.Author.Tests.{leb-true, leb-false, ltb-true, ltb-false}
+use Rattle.ascii.specs.Area.{joined}
 use Rattle.answer.specs.declared.record.Answer.{Answer}
 use Rattle.answer.specs.Numbers.{verdictNumber, severityNumber, reasonNumber}
 use Rattle.lines.specs.Line.{newline, answerOf}
 use Rattle.lines.specs.Text.{field, decimal, textOf, lineText}
 use Rattle.lines.specs.Stream.{split, linesOf, inTurn, answersTo, answers}
-use Rattle.lines.specs.Window.{usedOf, writtenOf, clipped, keptOf, lastOf, upto, writtenAll, keptAll, joined}
+use Rattle.lines.specs.Window.{usedOf, writtenOf, clipped, keptOf, lastOf, upto, writtenAll, keptAll}
 use Rattle.lines.proofs.Heads.{answer-cut}
 use Rattle.lines.proofs.Splits.{by, Open, upto-le, split-line, open-take, fronted, lines-open, fronted-first, fronted-alone}
 use Rattle.lines.proofs.Windows.{Stops, stops-full, stops-open, written-none, used-none, written-line, used-line, clipped-line, clipped-open, last-none, last-line}

@@ -1,5 +1,6 @@
 -- Laws of lines, their answers and the stream of them.
 pub mod Heads
+pub mod Small
 pub mod Texts
 pub mod Splits
 pub mod Feeding

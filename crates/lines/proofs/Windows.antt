@@ -7,16 +7,17 @@ use native.Mathlib.Nat.{add-comm, zero-add}
 use native.Mathlib.Numerals.{add-one}
 use native.Mathlib.Omega.{arith}
 use lib.Dec.{leb, ltb}
-use lib.ListN.{length, take, drop, getD, set, length-append, length-take, length-drop}
+use lib.ListN.{length, take, drop, getD, set, length-take, length-drop}
 use lib.Seq.{take-all, take-take, length-take-le, getD-append-add, getD-drop, paste-suc}
 use borrow.Author.Tests.{le-leb, lt-leb, ltb-true, ltb-false}
+use Rattle.ascii.specs.Area.{Put}
 use Rattle.ascii.specs.Pick.{pick}
+use Rattle.ascii.proofs.Area.{put-start, put-most}
 use Rattle.lines.specs.Text.{lineText}
 use Rattle.lines.specs.Stream.{inTurn}
-use Rattle.lines.specs.Window.{ended, fitting, extent, writtenOf, usedOf, clipped, keptOf, lastOf, upto, Stored, Laid, StepRight}
+use Rattle.lines.specs.Window.{ended, fitting, extent, writtenOf, usedOf, clipped, keptOf, lastOf, upto, StepRight}
 use Rattle.lines.proofs.Heads.{drop-take, take-least}
-use Rattle.lines.proofs.Texts.{stored-front, stored-behind}
-use Rattle.lines.proofs.Feeding.{Feeding, feeding-on, feeding-laid, laid, part-tail}
+use Rattle.lines.proofs.Feeding.{Feeding, feeding-on, feeding-laid, part-tail}
 use Rattle.lines.proofs.Splits.{by, Open, upto-le, ended-line, ended-open, among-line, among-open}
 
 -- ---- the lines that fit
@@ -72,7 +73,7 @@ abbrev pub Fed : List ℕ → List ℕ → List ℕ → ℕ → ℕ → Type 0
 Fed s old new used put = Feeding writtenOf usedOf s old new used put
 
 module _ (s o new new′ rest : List ℕ) (used put put′ n : ℕ) (f : Fed s o new used put) (er : rest ≡ take (length s - used) (drop used s))
-    (en : n ≡ upto rest) (h : n < length rest) (room : put + 16 ≤ length new) (st : Stored new new′ put put′ (lineText (take n rest)) 16) where
+    (en : n ≡ upto rest) (h : n < length rest) (room : put + 16 ≤ length new) (st : Put 16 new put (lineText (take n rest)) put′ new′) where
   free : 16 ≤ length o - put
   free = omega (arith, f .size)
 
@@ -88,7 +89,7 @@ module _ (s o new : List ℕ) (used put : ℕ) (f : Fed s o new used put) (stop 
   fed-used : used ≡ usedOf (length o) s
   fed-used = omega (arith, f .uses, used-none (length o - put) (drop used s) stop)
 
-  pub fed-right : (used ≡ usedOf (length o) s) × ((used ≤ length s) × Laid o new put (writtenOf (length o) s))
+  pub fed-right : (used ≡ usedOf (length o) s) × ((used ≤ length s) × Put (length o) o 0 (writtenOf (length o) s) put new)
   fed-right =
       (fed-used, (f .within, feeding-laid writtenOf usedOf s o new used put f (written-none (length o - put) (drop used s) stop)))
 
@@ -128,13 +129,22 @@ shift-step b from i h =
     ∙ sym (getD-drop from b i 0) in
     rw v (simp (zero-add, ← add-one) at (paste-suc b 0 (drop from b) i 0 q′ q))
 
+pub shifted : (b b′ : List ℕ) (from n : ℕ) → from + n ≤ length b → b′ ≡ take n (drop from b) ++ drop n b → Put n b 0 (take n (drop from b)) n b′
+shifted b b′ from n h e =
+    let l : length (take n (drop from b)) ≡ n = length-take-le n (drop from b) (omega (arith, length-drop from b)) in
+    record {
+      now = e ∙ sym (put-start b (take n (drop from b)) ∙ ap (λ (k : ℕ). take n (drop from b) ++ drop k b) l);
+      ends = omega arith;
+      few = omega arith;
+    }
+
 -- ---- one step
 
 module _ (b b′ o o′ : List ℕ) (n m used put keep : ℕ) (em : m ≡ min (length b) n)
-    (eu : used ≡ usedOf (length o) (take m b)) (within : used ≤ length (take m b)) (fed : Laid o o′ put (writtenOf (length o) (take m b)))
+    (eu : used ≡ usedOf (length o) (take m b)) (within : used ≤ length (take m b)) (fed : Put (length o) o 0 (writtenOf (length o) (take m b)) put o′)
     (ek : keep ≡ length (clipped (take (m - used) (drop used b)))) (inside : keep ≤ length (take (m - used) (drop used b)))
     (front : take keep (take (m - used) (drop used b)) ≡ clipped (take (m - used) (drop used b)))
-    (moved : b′ ≡ take keep (drop used b) ++ drop keep b) where
+    (moved : Put keep b 0 (take keep (drop used b)) keep b′) where
   whole : take n b ≡ take m b
   whole = rw (em, take-least b n)
 
@@ -153,32 +163,14 @@ module _ (b b′ o o′ : List ℕ) (n m used put keep : ℕ) (em : m ≡ min (l
   used-le : used ≤ m
   used-le = omega (arith, within, m-length)
 
-  keep-length : keep ≤ length b
-  keep-length = omega (arith, keep-le, used-le, em)
-
   kept : keptOf (length o) (take n b) ≡ take keep (drop used b)
   unfolding keptOf
   kept =
       rw (whole, ← eu, rest)
       (sym front ∙ take-take keep (m - used) (drop used b) keep-le)
 
-  front-size : length (take keep (drop used b)) ≡ keep
-  front-size = length-take-le keep (drop used b) (omega (arith, length-drop used b, keep-le, used-le, em))
-
-  b-length : length b′ ≡ length b
-  b-length =
-      ap length moved
-      ∙ omega (arith, length-append (take keep (drop used b)) (drop keep b), length-drop keep b, keep-length, front-size)
-
-  held : Laid b b′ keep (keptOf (length o) (take n b))
-  held =
-      record {
-        wrote = rw (kept, front-size) moved;
-        counted = rw kept (sym front-size);
-        within = omega (arith, b-length, keep-length);
-        size = b-length;
-        part = sym (length-take-le keep b′ (omega (arith, b-length, keep-length)));
-      }
+  held : Put (length b) b 0 (keptOf (length o) (take n b)) keep b′
+  held = rw kept (put-most moved (omega (arith, moved .few, keep-le, used-le, em)))
 
   moves : 1033 < length b → 16 ≤ length o → keep < length b
   moves big room =
@@ -219,12 +211,3 @@ last-full room s h = rw (lt-leb 16 room h)
 pub last-line : (room : ℕ) (s : List ℕ) → 16 ≤ room → (length s ≡ 0 → ⊥) → lastOf room s ≡ lineText s
 unfolding lastOf pick
 last-line room s h n = rw (le-leb 16 room h, le-leb 1 (length s) (omega arith))
-
--- nothing is laid
-pub laid-none : (o text : List ℕ) → text ≡ [] → Laid o o 0 text
-laid-none o text e = laid o o 0 text e (omega arith) refl refl
-
-pub laid-stored : (o o′ text : List ℕ) (r : ℕ) → 16 ≤ length o → Stored o o′ 0 r text 16 → Laid o o′ r text
-laid-stored o o′ text r h st =
-    let k : 0 + 16 ≤ length o = omega arith in
-    laid o o′ r text (sym (stored-front o o′ 0 r text 16 st k)) (omega (arith, st .short, st .size)) (st .size) (stored-behind o o′ 0 r text 16 st k)

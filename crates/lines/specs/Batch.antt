@@ -3,7 +3,7 @@ use mathlib.Core.Path.{_≡_}
 use mathlib.Core.List.{List, [], _∷_}
 use Prim.Native.Nat.{ℕ, _/_, min}
 use lib.ListN.{length, take}
-use Rattle.ascii.specs.Area.{over}
+use Rattle.ascii.specs.Area.{put}
 use Rattle.answer.specs.declared.record.Answer.{Answer}
 use Rattle.answer.specs.Numbers.{verdictNumber, severityNumber, reasonNumber}
 use Rattle.lines.specs.Line.{answerOf}
@@ -31,6 +31,6 @@ spannedOf room s = min (length s) (extent (batched room s))
 
 -- the area `old` has become `new`
 pub record BatchRight (s old new : List ℕ) (count used : ℕ) : Type 0 where
-  pub wrote : new ≡ over (numbersOf (length old) s) old
+  pub wrote : new ≡ put old 0 (numbersOf (length old) s)
   pub counted : count ≡ length (batched (length old) s)
   pub spanned : used ≡ spannedOf (length old) s

@@ -5,9 +5,7 @@ use mathlib.Core.List.{List, [], _∷_, _++_}
 use Prim.Native.Nat.{ℕ, suc, _+_, _-_, _≤_, _<_}
 use lib.Dec.{leb, eqb}
 use lib.ListN.{length, take, drop}
-use lib.Seq.{sets}
-pub use Rattle.ascii.specs.Area.{over}
-unfoldable pub use Rattle.ascii.specs.Area.{joined}
+use Rattle.ascii.specs.Area.{Put}
 use Rattle.ascii.specs.Pick.{pick}
 use Rattle.ascii.specs.Class.{among}
 use Rattle.lines.specs.Line.{newline}
@@ -55,26 +53,10 @@ upto (b ∷ s) = pick (eqb b newline) 0 (suc (upto s))
 
 -- ---- the promises, in named parts
 
--- the area `old` has become `new`: the text stands from `at` on, every other byte stays, and r is where the text ends
-pub record Stored (old new : List ℕ) (at r : ℕ) (text : List ℕ) (most : ℕ) : Type 0 where
-  pub wrote : new ≡ sets old at text
-  pub next : r ≡ at + length text
-  pub short : r ≤ at + most
-  pub size : length new ≡ length old
-
--- a text stands at the start of the area `old`, which has become `new`; `count` is its length
-pub record Laid (old new : List ℕ) (count : ℕ) (text : List ℕ) : Type 0 where
-  pub wrote : new ≡ over text old
-  pub counted : count ≡ length text
-  pub within : count ≤ length new
-  pub size : length new ≡ length old
-  -- what `&new[..count]` asks of a caller
-  pub part : count ≡ length (take count new)
-
 -- s is the window, of which `kept` bytes are kept at the start of the buffer; `put` bytes are written
 pub record StepRight (s buf buf′ out out′ : List ℕ) (kept put : ℕ) : Type 0 where
-  pub written : Laid out out′ put (writtenOf (length out) s)
-  pub held : Laid buf buf′ kept (keptOf (length out) s)
+  pub written : Put (length out) out 0 (writtenOf (length out) s) put out′
+  pub held : Put (length buf) buf 0 (keptOf (length out) s) kept buf′
   -- a window above 1,033 bytes has room for more input afterwards, where an answer fits
   pub moves : 1033 < length buf → 16 ≤ length out → kept < length buf
 

@@ -2,15 +2,15 @@
 ghost use mathlib.Core.Path.{_≡_};
 ghost use Prim.Native.Nat.{_+_, _≤_, min};
 ghost use lib.ListN.{length};
+ghost use Rattle.ascii.specs.Area.{Put};
 ghost use Rattle.lines.specs.Batch.{fourNumbers, lineNumbers, BatchRight};
-ghost use Rattle.lines.specs.Window.{Stored};
 use super::line::answer_line;
 use super::window::line_len;
 use answer::Answer;
 
 fn put_four(out: &mut [u32], at: usize, a: Answer) -> usize
     requires { ⌜ at + 4 ≤ length (now out) ⌝ }
-    ensures { λ r. ⌜ Stored (now (out .entry)) (now (out .exit)) at r (fourNumbers a) 4 ⌝ }
+    ensures { λ r. ⌜ Put 4 (now (out .entry)) at (fourNumbers a) r (now (out .exit)) ⌝ }
 {
     let verdict = a.verdict;
     let rule = a.rule;
@@ -31,7 +31,7 @@ fn put_four(out: &mut [u32], at: usize, a: Answer) -> usize
 
 fn put_numbers(line: &[u8], out: &mut [u32], at: usize) -> usize
     requires { ⌜ at + 4 ≤ length (now out) ⌝ }
-    ensures { λ r. ⌜ Stored (now (out .entry)) (now (out .exit)) at r (lineNumbers (now (line .entry))) 4 ⌝ }
+    ensures { λ r. ⌜ Put 4 (now (out .entry)) at (lineNumbers (now (line .entry))) r (now (out .exit)) ⌝ }
 {
     let a = answer_line(line);
     put_four(out, at, a)

@@ -4,7 +4,8 @@ ghost use mathlib.Core.Bool.{false};
 ghost use mathlib.Core.List.{_++_};
 ghost use Prim.Native.Nat.{_+_, _≤_};
 ghost use lib.ListN.{length, take, drop};
-ghost use Rattle.lines.specs.Window.{upto, usedOf, writtenOf, clipped, lastOf, Laid, StepRight};
+ghost use Rattle.ascii.specs.Area.{Put};
+ghost use Rattle.lines.specs.Window.{upto, usedOf, writtenOf, clipped, lastOf, StepRight};
 use super::line::least;
 use super::put::put_line;
 
@@ -59,7 +60,7 @@ struct Fed {
 fn feed(s: &[u8], out: &mut [u8]) -> Fed
     ensures used { λ r. ⌜ r .used ≡ usedOf (length (now (out .entry))) (now (s .entry)) ⌝ }
     ensures within { λ r. ⌜ r .used ≤ length (now (s .entry)) ⌝ }
-    ensures laid { λ r. ⌜ Laid (now (out .entry)) (now (out .exit)) (r .put) (writtenOf (length (now (out .entry))) (now (s .entry))) ⌝ }
+    ensures laid { λ r. ⌜ Put (length (now (out .entry))) (now (out .entry)) 0 (writtenOf (length (now (out .entry))) (now (s .entry))) (r .put) (now (out .exit)) ⌝ }
 {
     let mut used = 0;
     let mut put = 0;
@@ -97,7 +98,7 @@ fn keep_len(rest: &[u8]) -> usize
 // Moves the n bytes from `from` on to the front.
 fn shift(buf: &mut [u8], from: usize, n: usize)
     requires { ⌜ from + n ≤ length (now buf) ⌝ }
-    ensures { λ _. ⌜ now (buf .exit) ≡ take n (drop from (now (buf .entry))) ++ drop n (now (buf .entry)) ⌝ }
+    ensures { λ _. ⌜ Put n (now (buf .entry)) 0 (take n (drop from (now (buf .entry)))) n (now (buf .exit)) ⌝ }
 {
     let mut i = 0;
     while i < n {
@@ -127,7 +128,7 @@ pub fn step(buf: &mut [u8], n: usize, out: &mut [u8]) -> Stepped
 
 // The answer to a last line that no newline ends, stored at the start of out.
 pub fn last(s: &[u8], out: &mut [u8]) -> usize
-    ensures { λ r. ⌜ Laid (now (out .entry)) (now (out .exit)) r (lastOf (length (now (out .entry))) (now (s .entry))) ⌝ }
+    ensures { λ r. ⌜ Put (length (now (out .entry))) (now (out .entry)) 0 (lastOf (length (now (out .entry))) (now (s .entry))) r (now (out .exit)) ⌝ }
 {
     if s.len() == 0 {
         return 0;

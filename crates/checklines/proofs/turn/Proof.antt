@@ -1,6 +1,7 @@
 -- `checklines::turn` stays within its buffers, and leaves room to read more.
 use native.Mathlib.Omega.{arith}
-use lib.ListN.{length-take}
+use mathlib.Core.Path.{sym}
+use lib.Seq.{length-take-le}
 use borrow.Author.Needs.{needs}
 use Rattle.checklines.proofs.turn.Statement.{statement}
 use Rattle.checklines.proofs.turn.Tie as tie
@@ -56,10 +57,10 @@ step-requires : tie.Need-step-requires
 step-requires c κs = search needs
 
 slice-reshare-prefix-last : tie.Need-slice-reshare-prefix-last
-slice-reshare-prefix-last c = omega (arith, c .before .before .before .before .before .before .step .ensures .held .part, length-take (c .before .before .before .before .before .before .step .result .kept) (c .before .before .before .before .before .before .step .last .0))
+slice-reshare-prefix-last c = omega (arith, c .before .before .before .before .before .before .step .ensures .held .few, c .before .before .before .before .before .before .step .ensures .held .ends)
 
 slice-aggregate-last : tie.Need-slice-aggregate-last
-slice-aggregate-last c = search needs
+slice-aggregate-last c = sym (length-take-le (c .before .before .before .before .before .before .before .step .result .kept) (c .before .before .before .before .before .before .before .step .last .0) (omega (arith, c .before .before .before .before .before .before .before .step .ensures .held .few, c .before .before .before .before .before .before .before .step .ensures .held .ends)))
 
 last-requires : tie.Need-last-requires
 last-requires c κs = search needs
@@ -68,7 +69,7 @@ slice-reshare-prefix-write : tie.Need-slice-reshare-prefix-write
 slice-reshare-prefix-write c = search needs
 
 slice-aggregate-write : tie.Need-slice-aggregate-write
-slice-aggregate-write c = search needs
+slice-aggregate-write c = sym (length-take-le (c .before .before .before .last .result) (c .before .before .before .last .last .1 .0) (omega (arith, c .before .before .before .last .ensures .few, c .before .before .before .last .ensures .ends)))
 
 write-requires : tie.Need-write-requires
 write-requires c κs = search needs
@@ -80,13 +81,13 @@ same-length-3 : tie.Need-same-length-3
 same-length-3 c = search needs
 
 returns-2 : tie.Need-returns-2
-returns-2 c = omega (arith, c .before .before .before .before .before .before .before .before .before .before .before .before .before .step .ensures .moves (omega (arith, c .before .before .before .before .before .before .before .before .before .before .before .before .before .step .ensures .held .size)) (omega (arith, c .before .before .before .before .before .before .before .before .before .before .before .before .before .step .ensures .written .size)), c .before .before .before .before .before .before .before .before .before .before .before .before .before .step .ensures .held .size)
+returns-2 c = omega (arith, c .before .before .before .before .before .before .before .before .before .before .before .before .before .step .ensures .moves (omega arith) (omega arith))
 
 slice-reshare-prefix-write-2 : tie.Need-slice-reshare-prefix-write-2
 slice-reshare-prefix-write-2 c = search needs
 
 slice-aggregate-write-2 : tie.Need-slice-aggregate-write-2
-slice-aggregate-write-2 c = search needs
+slice-aggregate-write-2 c = sym (length-take-le (c .before .before .before .before .before .before .step .result .put) (c .before .before .before .before .before .before .step .last .1 .1 .0) (omega (arith, c .before .before .before .before .before .before .step .ensures .written .few, c .before .before .before .before .before .before .step .ensures .written .ends)))
 
 write-requires-2 : tie.Need-write-requires-2
 write-requires-2 c κs = search needs
@@ -98,7 +99,7 @@ same-length-5 : tie.Need-same-length-5
 same-length-5 c = search needs
 
 returns-3 : tie.Need-returns-3
-returns-3 c = omega (arith, c .before .before .before .before .before .before .before .step .ensures .moves (omega (arith, c .before .before .before .before .before .before .before .step .ensures .held .size)) (omega (arith, c .before .before .before .before .before .before .before .step .ensures .written .size)), c .before .before .before .before .before .before .before .step .ensures .held .size)
+returns-3 c = omega (arith, c .before .before .before .before .before .before .before .step .ensures .moves (omega arith) (omega arith))
 
 pub turn-spec : {M : Type 1} → statement M
 turn-spec =

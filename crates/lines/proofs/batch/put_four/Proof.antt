@@ -60,7 +60,7 @@ same-length : tie.Need-same-length
 same-length c = search needs
 
 returns : tie.Need-returns
-returns c = put-four (c .before .before .before .before .args .a) (c .before .before .before .before .args .out .now) (c .before .before .before .before .args .at) (c .before .before .number .result) (c .before .number2 .result) (c .number3 .result) (c .before .before .number .ensures) (c .before .number2 .ensures) (c .number3 .ensures)
+returns c = put-four (c .before .before .before .before .args .a) (c .before .before .before .before .args .out .now) (c .before .before .before .before .args .at) (c .before .before .number .result) (c .before .number2 .result) (c .number3 .result) (omega arith) (c .before .before .number .ensures) (c .before .number2 .ensures) (c .number3 .ensures)
 
 pub put-four-spec : {M : Type 1} → statement M
 put-four-spec =

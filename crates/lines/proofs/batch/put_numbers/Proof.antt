@@ -1,5 +1,5 @@
 -- `lines::batch::put_numbers` stores the numbers of a line's answer.
-use Rattle.lines.proofs.Batches.{put-line-numbers}
+use Rattle.lines.specs.Batch.{lineNumbers}
 use borrow.Author.Needs.{needs}
 use Rattle.lines.proofs.batch.put_numbers.Statement.{statement}
 use Rattle.lines.proofs.batch.put_numbers.Tie as tie
@@ -18,7 +18,8 @@ same-length : tie.Need-same-length
 same-length c = search needs
 
 returns : tie.Need-returns
-returns c = put-line-numbers (c .before .before .before .before .before .before .before .args .line .now) (c .before .before .before .before .before .before .before .args .out .now) (c .before .before .put-four .last .0) (c .before .before .before .before .before .before .before .args .at) (c .before .before .put-four .result) (c .before .before .before .before .answer-line .result) (c .before .before .before .before .answer-line .ensures) (c .before .before .put-four .ensures)
+unfolding lineNumbers
+returns c = rw (← c .before .before .before .before .answer-line .ensures) (c .before .before .put-four .ensures)
 
 pub put-numbers-spec : {M : Type 1} → statement M
 put-numbers-spec = tie.close (tie.spec answer-line-requires put-four-requires same-length returns)
