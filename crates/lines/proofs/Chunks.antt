@@ -12,9 +12,10 @@ use Rattle.ascii.specs.Area.{joined}
 use Rattle.answer.specs.declared.record.Answer.{Answer}
 use Rattle.answer.specs.Numbers.{verdictNumber, severityNumber, reasonNumber}
 use Rattle.lines.specs.Line.{newline, answerOf}
-use Rattle.lines.specs.Text.{field, decimal, textOf, lineText}
+use Rattle.lines.specs.Text.{field, numeral, answerText, lineText}
 use Rattle.lines.specs.Stream.{split, linesOf, inTurn, answersTo, answers}
-use Rattle.lines.specs.Window.{usedOf, writtenOf, clipped, keptOf, lastOf, upto, writtenAll, keptAll}
+use Rattle.lines.specs.Window.{usedOf, writtenOf, clipped, keptOf, lastOf, writtenAll, keptAll}
+use Rattle.lines.specs.Inner.{upto}
 use Rattle.lines.proofs.Heads.{answer-cut}
 use Rattle.lines.proofs.Splits.{by, Open, upto-le, split-line, open-take, fronted, lines-open, fronted-first, fronted-alone}
 use Rattle.lines.proofs.Windows.{Stops, stops-full, stops-open, written-none, used-none, written-line, used-line, clipped-line, clipped-open, last-none, last-line}
@@ -29,7 +30,7 @@ take-cut (suc n) (x ∷ p) r = ap (λ (l : List ℕ). x ∷ l) (take-cut n p r)
 pub line-cut : (p r : List ℕ) → lineText (take 1033 p ++ r) ≡ lineText (p ++ r)
 unfolding lineText
 line-cut p r =
-    ap textOf
+    ap answerText
     (sym (answer-cut (take 1033 p ++ r)) ∙ ap answerOf (take-cut 1033 p r) ∙ answer-cut (p ++ r))
 
 line-clip : (p : List ℕ) → lineText (take 1033 p) ≡ lineText p
@@ -141,11 +142,11 @@ chunks room kept (c ∷ cs) t =
 some : (x d : List ℕ) (b : ℕ) → 0 < length (x ++ (d ++ b ∷ []))
 some x d b = omega (arith, length-append x (d ++ b ∷ []), length-append d (b ∷ []))
 
-answer-some : (a : Answer) → 0 < length (textOf a)
-unfolding textOf field
+answer-some : (a : Answer) → 0 < length (answerText a)
+unfolding answerText field
 answer-some a =
     some (field (verdictNumber (a .verdict)) 32 ++ field (a .rule) 32 ++ field (severityNumber (a .severity)) 32)
-    (decimal (reasonNumber (a .reason)))
+    (numeral (reasonNumber (a .reason)))
     newline
 
 text-some : (l : List ℕ) → 0 < length (lineText l)

@@ -20,7 +20,7 @@ use Rattle.rules.specs.declared.choice.Chosen.the-variants.{By, NoRule as NoRul
 use Rattle.rules.specs.Facts.{facts}
 use Rattle.rules.specs.Choice.{ruleFor}
 use Rattle.rules.specs.Check.{answerTo, answerBy, onChosen, checkOf}
-use Rattle.lines.specs.Line.{headOk, termOf, contentOf, answerOf}
+use Rattle.lines.specs.Line.{headOk, termOf, lineContent, answerOf}
 
 pub verdict-small : (v : Verdict) → verdictNumber v < 1000
 verdict-small NoRule = omega arith
@@ -80,4 +80,4 @@ check-small scheme term content = chosen-small (ruleFor scheme term) content
 
 pub rule-small : (line : List ℕ) → answerOf line .rule < 1000
 unfolding answerOf
-rule-small line = pick-small (headOk line) _ _ (check-small (take 4 line) (termOf line) (contentOf line)) (omega arith)
+rule-small line = pick-small (headOk line) _ _ (check-small (take 4 line) (termOf line) (lineContent line)) (omega arith)

@@ -15,7 +15,8 @@ use Rattle.ascii.specs.Pick.{pick}
 use Rattle.ascii.proofs.Area.{put-start, put-most}
 use Rattle.lines.specs.Text.{lineText}
 use Rattle.lines.specs.Stream.{inTurn}
-use Rattle.lines.specs.Window.{ended, fitting, extent, writtenOf, usedOf, clipped, keptOf, lastOf, upto, StepRight}
+use Rattle.lines.specs.Window.{ended, fitting, extent, writtenOf, usedOf, clipped, keptOf, lastOf}
+use Rattle.lines.specs.Inner.{upto, StepRight}
 use Rattle.lines.proofs.Heads.{drop-take, take-least}
 use Rattle.lines.proofs.Feeding.{Feeding, feeding-on, feeding-laid, part-tail}
 use Rattle.lines.proofs.Splits.{by, Open, upto-le, ended-line, ended-open, among-line, among-open}

@@ -4,3 +4,4 @@ pub mod Text
 pub mod Stream
 pub mod Window
 pub mod Batch
+pub mod Inner

@@ -30,8 +30,8 @@ unfoldable pub termOf : List ℕ → ℕ
 termOf s = 10 * (getD s 5 0 - code "0") + (getD s 6 0 - code "0")
 
 -- what is read of the content: one byte more than a rule may read
-unfoldable pub contentOf : List ℕ → List ℕ
-contentOf s = take 1025 (drop 8 s)
+unfoldable pub lineContent : List ℕ → List ℕ
+lineContent s = take 1025 (drop 8 s)
 
 unfoldable pub answerOf : List ℕ → Answer
-answerOf s = pick (headOk s) (checkOf (take 4 s) (termOf s) (contentOf s)) (refused 0 NoSeverity Line)
+answerOf s = pick (headOk s) (checkOf (take 4 s) (termOf s) (lineContent s)) (refused 0 NoSeverity Line)

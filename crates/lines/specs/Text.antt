@@ -12,20 +12,20 @@ abbrev pub digit : ℕ → ℕ
 digit d = code "0" + d
 
 -- a number of at most so many digits
-unfoldable pub digits : ℕ → ℕ → List ℕ
-digits zero n = []
-digits (suc most) n = pick (ltb n 10) (digit n ∷ []) (digits most (n / 10) ++ digit (n % 10) ∷ [])
+unfoldable pub inDigits : ℕ → ℕ → List ℕ
+inDigits zero n = []
+inDigits (suc most) n = pick (ltb n 10) (digit n ∷ []) (inDigits most (n / 10) ++ digit (n % 10) ∷ [])
 
 -- a rule's number is a u32, which has at most ten digits
-unfoldable pub decimal : ℕ → List ℕ
-decimal n = digits 10 n
+unfoldable pub numeral : ℕ → List ℕ
+numeral n = inDigits 10 n
 
 -- a number and the byte behind it
 unfoldable pub field : ℕ → ℕ → List ℕ
-field n behind = decimal n ++ behind ∷ []
+field n behind = numeral n ++ behind ∷ []
 
-unfoldable pub textOf : Answer → List ℕ
-textOf a =
+unfoldable pub answerText : Answer → List ℕ
+answerText a =
     field (verdictNumber (a .verdict)) space
     ++ field (a .rule) space
     ++ field (severityNumber (a .severity)) space
@@ -33,4 +33,4 @@ textOf a =
 
 -- the text that a line is answered by
 unfoldable pub lineText : List ℕ → List ℕ
-lineText line = textOf (answerOf line)
+lineText line = answerText (answerOf line)

@@ -1,11 +1,9 @@
 -- What one step does with a window s of the input, and an output area of `room` bytes.
-use mathlib.Core.Path.{_≡_}
 use mathlib.Core.Bool.{false, _&&_}
 use mathlib.Core.List.{List, [], _∷_, _++_}
-use Prim.Native.Nat.{ℕ, suc, _+_, _-_, _≤_, _<_}
-use lib.Dec.{leb, eqb}
+use Prim.Native.Nat.{ℕ, _+_, _-_}
+use lib.Dec.{leb}
 use lib.ListN.{length, take, drop}
-use Rattle.ascii.specs.Area.{Put}
 use Rattle.ascii.specs.Pick.{pick}
 use Rattle.ascii.specs.Class.{among}
 use Rattle.lines.specs.Line.{newline}
@@ -45,20 +43,6 @@ keptOf room s = clipped (drop (usedOf room s) s)
 -- what is written for a last line that no newline ends
 unfoldable pub lastOf : ℕ → List ℕ → List ℕ
 lastOf room s = pick (leb 16 room && leb 1 (length s)) (lineText s) []
-
--- how many bytes stand before the first newline
-unfoldable pub upto : List ℕ → ℕ
-upto [] = 0
-upto (b ∷ s) = pick (eqb b newline) 0 (suc (upto s))
-
--- ---- the promises, in named parts
-
--- s is the window, of which `kept` bytes are kept at the start of the buffer; `put` bytes are written
-pub record StepRight (s buf buf′ out out′ : List ℕ) (kept put : ℕ) : Type 0 where
-  pub written : Put (length out) out 0 (writtenOf (length out) s) put out′
-  pub held : Put (length buf) buf 0 (keptOf (length out) s) kept buf′
-  -- a window above 1,033 bytes has room for more input afterwards, where an answer fits
-  pub moves : 1033 < length buf → 16 ≤ length out → kept < length buf
 
 -- ---- chunk by chunk
 

@@ -2,14 +2,14 @@
 ghost use Prim.Native.Nat.{_+_, _≤_, _<_};
 ghost use lib.ListN.{length};
 ghost use Rattle.ascii.specs.Area.{Put};
-ghost use Rattle.lines.specs.Text.{decimal, field, textOf, lineText};
+ghost use Rattle.lines.specs.Text.{numeral, field, answerText, lineText};
 use super::line::answer_line;
 use answer::Answer;
 
 fn put_number(out: &mut [u8], at: usize, n: u32) -> usize
     requires { ⌜ at + 3 ≤ length (now out) ⌝ }
     requires { ⌜ n < 1000 ⌝ }
-    ensures { λ r. ⌜ Put 3 (now (out .entry)) at (decimal n) r (now (out .exit)) ⌝ }
+    ensures { λ r. ⌜ Put 3 (now (out .entry)) at (numeral n) r (now (out .exit)) ⌝ }
 {
     if n < 10 {
         out[at] = (48 + n) as u8;
@@ -44,7 +44,7 @@ fn put_field(out: &mut [u8], at: usize, n: u32, behind: u8) -> usize
 fn put_answer(out: &mut [u8], at: usize, a: Answer) -> usize
     requires { ⌜ at + 16 ≤ length (now out) ⌝ }
     requires { ⌜ a .rule < 1000 ⌝ }
-    ensures { λ r. ⌜ Put 16 (now (out .entry)) at (textOf a) r (now (out .exit)) ⌝ }
+    ensures { λ r. ⌜ Put 16 (now (out .entry)) at (answerText a) r (now (out .exit)) ⌝ }
 {
     let verdict = a.verdict;
     let rule = a.rule;

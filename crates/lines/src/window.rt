@@ -5,7 +5,8 @@ ghost use mathlib.Core.List.{_++_};
 ghost use Prim.Native.Nat.{_+_, _≤_};
 ghost use lib.ListN.{length, take, drop};
 ghost use Rattle.ascii.specs.Area.{Put};
-ghost use Rattle.lines.specs.Window.{upto, usedOf, writtenOf, clipped, lastOf, StepRight};
+ghost use Rattle.lines.specs.Window.{usedOf, writtenOf, clipped, lastOf};
+ghost use Rattle.lines.specs.Inner.{upto, StepRight};
 use super::line::least;
 use super::put::put_line;
 
