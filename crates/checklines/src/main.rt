@@ -1,6 +1,8 @@
 // Answers each line of standard input by a line on standard output.
 ghost use Prim.Native.Nat.{_<_, _≤_};
 ghost use lib.ListN.{length};
+ghost use Rattle.lines.specs.Line.{lineBytes};
+ghost use Rattle.lines.specs.Text.{answerRoom};
 use libc::STDIN_FILENO;
 use libc::STDOUT_FILENO;
 
@@ -23,8 +25,8 @@ fn write(text: &[u8]) -> bool {
 // it answers the last line, which no newline ends.
 fn turn(buf: &mut [u8], kept: usize, out: &mut [u8]) -> Next
     requires { ⌜ kept < length (now buf) ⌝ }
-    requires { ⌜ 1033 < length (now buf) ⌝ }
-    requires { ⌜ 16 ≤ length (now out) ⌝ }
+    requires { ⌜ lineBytes < length (now buf) ⌝ }
+    requires { ⌜ answerRoom ≤ length (now out) ⌝ }
     ensures { λ r. ⌜ r .kept < length (now (buf .exit)) ⌝ }
 {
     let got = libc::read(STDIN_FILENO, &mut buf[kept..]);
@@ -51,8 +53,8 @@ fn turn(buf: &mut [u8], kept: usize, out: &mut [u8]) -> Next
 }
 
 fn answer_all(buf: &mut [u8], out: &mut [u8])
-    requires { ⌜ 1033 < length (now buf) ⌝ }
-    requires { ⌜ 16 ≤ length (now out) ⌝ }
+    requires { ⌜ lineBytes < length (now buf) ⌝ }
+    requires { ⌜ answerRoom ≤ length (now out) ⌝ }
 {
     let mut kept = 0;
     let mut turns = u64::MAX;

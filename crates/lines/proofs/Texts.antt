@@ -1,6 +1,6 @@
 -- The text of an answer as the code stores it. Assumes nothing.
 use mathlib.Core.Path.{_≡_, refl}
-use mathlib.Core.List.{List, [], _∷_, _++_}
+use mathlib.Core.List.{List, [], _∷_, append-assoc}
 use Prim.Native.Nat.{ℕ, _+_, _/_, _%_, _≤_, _<_}
 use native.Mathlib.Numerals.{add-one}
 use native.Mathlib.Omega.{arith}
@@ -11,7 +11,8 @@ use Rattle.ascii.specs.Pick.{pick}
 use Rattle.ascii.proofs.Area.{put-size, put-more, put-stores}
 use Rattle.answer.specs.declared.record.Answer.{Answer}
 use Rattle.answer.specs.Numbers.{verdictNumber, severityNumber, reasonNumber}
-use Rattle.lines.specs.Text.{inDigits, numeral, field, answerText}
+use Rattle.answer.specs.Answers.{answerNumbers}
+use Rattle.lines.specs.Text.{inDigits, numeral, field, numbersText, answerText, answerRoom}
 
 -- ---- a number in decimal
 
@@ -49,16 +50,16 @@ put-behind {old} {at} {k} {mid} n b h p =
     let behind : Put 1 mid k (b ∷ []) (k + 1) (set mid k b) = put-stores refl refl (omega arith) (omega (arith, p .ends, p .few, put-size p fits)) in
     put-more p behind fits
 
--- the four fields of an answer, one behind the other, are its text
-pub put-fields : (a : Answer) (v s w : ℕ) {o o₁ o₂ o₃ o₄ : List ℕ} {at k m n r : ℕ} → at + 16 ≤ length o
+-- the fields of an answer, one behind the other, are its text
+pub put-fields : (a : Answer) (v s w : ℕ) {o o₁ o₂ o₃ o₄ : List ℕ} {at k m n r : ℕ} → at + answerRoom ≤ length o
     → v ≡ verdictNumber (a .verdict) → s ≡ severityNumber (a .severity) → w ≡ reasonNumber (a .reason)
     → Put 4 o at (field v 32) k o₁ → Put 4 o₁ k (field (a .rule) 32) m o₂ → Put 4 o₂ m (field s 32) n o₃ → Put 4 o₃ n (field w 10) r o₄
-    → Put 16 o at (answerText a) r o₄
-unfolding answerText
+    → Put answerRoom o at (answerText a) r o₄
+unfolding answerText answerNumbers numbersText
 put-fields a v s w h ev es ew p q x y =
     let pq = put-more p q (omega (arith, p .few)) in
     let pqx = put-more pq x (omega (arith, pq .few)) in
-    rw (← ev, ← es, ← ew) (put-more pqx y (omega (arith, pqx .few)))
+    rw (← ev, ← es, ← ew) (simp append-assoc at (put-more pqx y (omega (arith, pqx .few))))
 
 -- what is left behind it
 pub put-room : {most : ℕ} {old : List ℕ} {at : ℕ} {b : List ℕ} {end : ℕ} {new : List ℕ} (left : ℕ) (p : Put most old at b end new)

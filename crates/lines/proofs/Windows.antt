@@ -13,7 +13,8 @@ use borrow.Author.Tests.{le-leb, lt-leb, ltb-true, ltb-false}
 use Rattle.ascii.specs.Area.{Put}
 use Rattle.ascii.specs.Pick.{pick}
 use Rattle.ascii.proofs.Area.{put-start, put-most}
-use Rattle.lines.specs.Text.{lineText}
+use Rattle.lines.specs.Line.{lineBytes}
+use Rattle.lines.specs.Text.{lineText, answerRoom}
 use Rattle.lines.specs.Stream.{inTurn}
 use Rattle.lines.specs.Window.{ended, fitting, extent, writtenOf, usedOf, clipped, keptOf, lastOf}
 use Rattle.lines.specs.Inner.{upto, StepRight}
@@ -27,20 +28,20 @@ fitting-none : (room : ℕ) → fitting room [] ≡ []
 unfolding fitting
 fitting-none room = refl
 
-pub fitting-full : (room : ℕ) (ls : List (List ℕ)) → room < 16 → fitting room ls ≡ []
+pub fitting-full : (room : ℕ) (ls : List (List ℕ)) → room < answerRoom → fitting room ls ≡ []
 unfolding fitting pick
 fitting-full room [] h = refl
-fitting-full room (l ∷ ls) h = rw (lt-leb 16 room h)
+fitting-full room (l ∷ ls) h = rw (lt-leb answerRoom room h)
 
-fitting-first : (room : ℕ) (l : List ℕ) (ls : List (List ℕ)) → 16 ≤ room → fitting room (l ∷ ls) ≡ l ∷ fitting (room - length (lineText l)) ls
+fitting-first : (room : ℕ) (l : List ℕ) (ls : List (List ℕ)) → answerRoom ≤ room → fitting room (l ∷ ls) ≡ l ∷ fitting (room - length (lineText l)) ls
 unfolding fitting pick
-fitting-first room l ls h = rw (le-leb 16 room h)
+fitting-first room l ls h = rw (le-leb answerRoom room h)
 
--- a step stops where no line is ended, or 16 bytes are not free
+-- a step stops where no line is ended, or answerRoom bytes are not free
 abbrev pub Stops : ℕ → List ℕ → Type 0
 Stops room s = fitting room (ended s) ≡ []
 
-pub stops-full : (room : ℕ) (s : List ℕ) → room < 16 → Stops room s
+pub stops-full : (room : ℕ) (s : List ℕ) → room < answerRoom → Stops room s
 stops-full room s h = fitting-full room (ended s) h
 
 pub stops-open : (room : ℕ) (s : List ℕ) → Open s → Stops room s
@@ -54,7 +55,7 @@ pub used-none : (room : ℕ) (s : List ℕ) → Stops room s → usedOf room s �
 unfolding usedOf extent
 used-none room s e = rw e
 
-module _ (room : ℕ) (s : List ℕ) (n : ℕ) (e : n ≡ upto s) (h : 16 ≤ room) (k : n < length s) where
+module _ (room : ℕ) (s : List ℕ) (n : ℕ) (e : n ≡ upto s) (h : answerRoom ≤ room) (k : n < length s) where
   first : fitting room (ended s) ≡ take n s ∷ fitting (room - length (lineText (take n s))) (ended (drop (n + 1) s))
   first =
       ap (fitting room) (rw (← e) at (ended-line s (rw (← e) k)))
@@ -74,13 +75,13 @@ abbrev pub Fed : List ℕ → List ℕ → List ℕ → ℕ → ℕ → Type 0
 Fed s old new used put = Feeding writtenOf usedOf s old new used put
 
 module _ (s o new new′ rest : List ℕ) (used put put′ n : ℕ) (f : Fed s o new used put) (er : rest ≡ take (length s - used) (drop used s))
-    (en : n ≡ upto rest) (h : n < length rest) (room : put + 16 ≤ length new) (st : Put 16 new put (lineText (take n rest)) put′ new′) where
-  free : 16 ≤ length o - put
+    (en : n ≡ upto rest) (h : n < length rest) (room : put + answerRoom ≤ length new) (st : Put answerRoom new put (lineText (take n rest)) put′ new′) where
+  free : answerRoom ≤ length o - put
   free = omega (arith, f .size)
 
   pub feeding-line : Fed s o new′ (used + n + 1) put′
   feeding-line =
-      feeding-on writtenOf usedOf s o new new′ rest (lineText (take n rest)) used (used + n + 1) put put′ (n + 1) 16 f er (omega arith) (omega arith)
+      feeding-on writtenOf usedOf s o new new′ rest (lineText (take n rest)) used (used + n + 1) put put′ (n + 1) answerRoom f er (omega arith) (omega arith)
       (written-line (length o - put) rest n en free h)
       (used-line (length o - put) rest n en free h)
       room
@@ -104,14 +105,14 @@ pub clipped-line : (s : List ℕ) → upto s < length s → clipped s ≡ s
 unfolding clipped pick
 clipped-line s h = rw (among-line s h)
 
-pub clipped-open : (s : List ℕ) → Open s → clipped s ≡ take 1033 s
+pub clipped-open : (s : List ℕ) → Open s → clipped s ≡ take lineBytes s
 unfolding clipped pick
 clipped-open s o = rw (among-open s o)
 
-pub clipped-short : (s : List ℕ) → length s ≤ 1033 → clipped s ≡ s
+pub clipped-short : (s : List ℕ) → length s ≤ lineBytes → clipped s ≡ s
 clipped-short s h =
     by (ltb (upto s) (length s)) (λ e. clipped-line s (ltb-true _ _ e))
-    (λ e. clipped-open s (omega (arith, upto-le s, ltb-false (upto s) (length s) e)) ∙ take-all 1033 s h)
+    (λ e. clipped-open s (omega (arith, upto-le s, ltb-false (upto s) (length s) e)) ∙ take-all lineBytes s h)
 
 -- ---- moving to the front
 
@@ -173,7 +174,7 @@ module _ (b b′ o o′ : List ℕ) (n m used put keep : ℕ) (em : m ≡ min (l
   held : Put (length b) b 0 (keptOf (length o) (take n b)) keep b′
   held = rw kept (put-most moved (omega (arith, moved .few, keep-le, used-le, em)))
 
-  moves : 1033 < length b → 16 ≤ length o → keep < length b
+  moves : lineBytes < length b → answerRoom ≤ length o → keep < length b
   moves big room =
       by (ltb (upto (take m b)) (length (take m b)))
       (λ e.
@@ -188,9 +189,9 @@ module _ (b b′ o o′ : List ℕ) (n m used put keep : ℕ) (em : m ≡ min (l
       (λ e.
       let op : Open (take m b) = omega (arith, upto-le (take m b), ltb-false (upto (take m b)) (length (take m b)) e) in
       let z : used ≡ 0 = eu ∙ used-none (length o) (take m b) (stops-open (length o) (take m b) op) in
-      let c : clipped (take (m - used) (drop used b)) ≡ take 1033 (take m b) =
+      let c : clipped (take (m - used) (drop used b)) ≡ take lineBytes (take m b) =
       ap clipped (sym rest ∙ ap (λ (k : ℕ). drop k (take m b)) z) ∙ clipped-open (take m b) op in
-      omega (arith, ek, ap length c, length-take 1033 (take m b)))
+      omega (arith, ek, ap length c, length-take lineBytes (take m b)))
 
   pub step-right : StepRight (take n b) b b′ o o′ keep put
   step-right = record { written = rw whole fed; held = held; moves = moves }
@@ -199,16 +200,16 @@ module _ (b b′ o o′ : List ℕ) (n m used put keep : ℕ) (em : m ≡ min (l
 
 pub last-none : (room : ℕ) (s : List ℕ) → length s ≡ 0 → lastOf room s ≡ []
 unfolding lastOf pick
-last-none room s e = rw (lt-leb 1 (length s) (omega arith)) (both (leb 16 room))
+last-none room s e = rw (lt-leb 1 (length s) (omega arith)) (both (leb answerRoom room))
   where
     both : (t : Bool) → pick (t && false) (lineText s) [] ≡ []
     both true = refl
     both false = refl
 
-pub last-full : (room : ℕ) (s : List ℕ) → room < 16 → lastOf room s ≡ []
+pub last-full : (room : ℕ) (s : List ℕ) → room < answerRoom → lastOf room s ≡ []
 unfolding lastOf pick
-last-full room s h = rw (lt-leb 16 room h)
+last-full room s h = rw (lt-leb answerRoom room h)
 
-pub last-line : (room : ℕ) (s : List ℕ) → 16 ≤ room → (length s ≡ 0 → ⊥) → lastOf room s ≡ lineText s
+pub last-line : (room : ℕ) (s : List ℕ) → answerRoom ≤ room → (length s ≡ 0 → ⊥) → lastOf room s ≡ lineText s
 unfolding lastOf pick
-last-line room s h n = rw (le-leb 16 room h, le-leb 1 (length s) (omega arith))
+last-line room s h n = rw (le-leb answerRoom room h, le-leb 1 (length s) (omega arith))

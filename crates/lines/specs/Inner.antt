@@ -5,7 +5,8 @@ use lib.Dec.{eqb}
 use lib.ListN.{length}
 use Rattle.ascii.specs.Area.{Put}
 use Rattle.ascii.specs.Pick.{pick}
-use Rattle.lines.specs.Line.{newline}
+use Rattle.lines.specs.Line.{newline, lineBytes}
+use Rattle.lines.specs.Text.{answerRoom}
 use Rattle.lines.specs.Window.{writtenOf, keptOf}
 
 -- how many bytes stand before the first newline
@@ -17,5 +18,5 @@ upto (b ∷ s) = pick (eqb b newline) 0 (suc (upto s))
 pub record StepRight (s buf buf′ out out′ : List ℕ) (kept put : ℕ) : Type 0 where
   pub written : Put (length out) out 0 (writtenOf (length out) s) put out′
   pub held : Put (length buf) buf 0 (keptOf (length out) s) kept buf′
-  -- a window above 1,033 bytes has room for more input afterwards, where an answer fits
-  pub moves : 1033 < length buf → 16 ≤ length out → kept < length buf
+  -- a buffer that holds more than a line has room for more input afterwards, where an answer fits
+  pub moves : lineBytes < length buf → answerRoom ≤ length out → kept < length buf

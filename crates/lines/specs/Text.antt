@@ -1,11 +1,11 @@
--- An answer as text: verdict, rule, severity and reason in decimal, a space between them and a newline behind.
+-- An answer as text: its numbers in decimal, a space between two and a newline behind the last.
 use mathlib.Core.List.{List, [], _∷_, _++_}
 use Prim.Native.Nat.{ℕ, zero, suc, _+_, _/_, _%_}
 use Prim.Native.Char.{code}
 use lib.Dec.{ltb}
 use Rattle.ascii.specs.Pick.{pick}
 use Rattle.answer.specs.declared.record.Answer.{Answer}
-use Rattle.answer.specs.Numbers.{verdictNumber, severityNumber, reasonNumber}
+use Rattle.answer.specs.Answers.{answerNumbers}
 use Rattle.lines.specs.Line.{space, newline, answerOf}
 
 abbrev pub digit : ℕ → ℕ
@@ -24,12 +24,17 @@ numeral n = inDigits 10 n
 unfoldable pub field : ℕ → ℕ → List ℕ
 field n behind = numeral n ++ behind ∷ []
 
+unfoldable pub numbersText : List ℕ → List ℕ
+numbersText [] = []
+numbersText (n ∷ []) = field n newline
+numbersText (n ∷ m ∷ ns) = field n space ++ numbersText (m ∷ ns)
+
 unfoldable pub answerText : Answer → List ℕ
-answerText a =
-    field (verdictNumber (a .verdict)) space
-    ++ field (a .rule) space
-    ++ field (severityNumber (a .severity)) space
-    ++ field (reasonNumber (a .reason)) newline
+answerText a = numbersText (answerNumbers a)
+
+-- the bytes that it takes at most: four numbers of three digits, and a byte behind each
+abbrev pub answerRoom : ℕ
+answerRoom = 16
 
 -- the text that a line is answered by
 unfoldable pub lineText : List ℕ → List ℕ

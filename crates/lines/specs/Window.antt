@@ -6,18 +6,18 @@ use lib.Dec.{leb}
 use lib.ListN.{length, take, drop}
 use Rattle.ascii.specs.Pick.{pick}
 use Rattle.ascii.specs.Class.{among}
-use Rattle.lines.specs.Line.{newline}
-use Rattle.lines.specs.Text.{lineText}
+use Rattle.lines.specs.Line.{newline, lineBytes}
+use Rattle.lines.specs.Text.{lineText, answerRoom}
 use Rattle.lines.specs.Stream.{split, answersTo}
 
 -- the lines that a newline ends
 abbrev pub ended : List ℕ → List (List ℕ)
 ended s = split false s
 
--- the first of some lines, as long as 16 bytes are free: four numbers of three digits and a byte behind each
+-- the first of some lines, as long as an answer has room
 unfoldable pub fitting : ℕ → List (List ℕ) → List (List ℕ)
 fitting room [] = []
-fitting room (l ∷ ls) = pick (leb 16 room) (l ∷ fitting (room - length (lineText l)) ls) []
+fitting room (l ∷ ls) = pick (leb answerRoom room) (l ∷ fitting (room - length (lineText l)) ls) []
 
 -- the bytes of some lines, newlines counted
 unfoldable pub extent : List (List ℕ) → ℕ
@@ -32,9 +32,9 @@ writtenOf room s = answersTo (fitting room (ended s))
 unfoldable pub usedOf : ℕ → List ℕ → ℕ
 usedOf room s = extent (fitting room (ended s))
 
--- of a line that no newline ends yet, the bytes that are read: 8 of its head and 1,025 of its content
+-- of a line that no newline ends yet, the bytes that are read
 unfoldable pub clipped : List ℕ → List ℕ
-clipped rest = pick (among newline rest) rest (take 1033 rest)
+clipped rest = pick (among newline rest) rest (take lineBytes rest)
 
 -- what is kept for the next step
 unfoldable pub keptOf : ℕ → List ℕ → List ℕ
@@ -42,7 +42,7 @@ keptOf room s = clipped (drop (usedOf room s) s)
 
 -- what is written for a last line that no newline ends
 unfoldable pub lastOf : ℕ → List ℕ → List ℕ
-lastOf room s = pick (leb 16 room && leb 1 (length s)) (lineText s) []
+lastOf room s = pick (leb answerRoom room && leb 1 (length s)) (lineText s) []
 
 -- ---- chunk by chunk
 

@@ -2,9 +2,12 @@
 ghost use Prim.Native.Nat.{_+_, _≤_, _<_};
 ghost use lib.ListN.{length};
 ghost use Rattle.ascii.specs.Area.{Put};
-ghost use Rattle.lines.specs.Text.{numeral, field, answerText, lineText};
+ghost use Rattle.lines.specs.Text.{numeral, field, answerText, lineText, answerRoom};
 use super::line::answer_line;
 use answer::Answer;
+
+// The bytes that an answer's text takes at most.
+pub(crate) const ANSWER_ROOM: usize = 16;
 
 fn put_number(out: &mut [u8], at: usize, n: u32) -> usize
     requires { ⌜ at + 3 ≤ length (now out) ⌝ }
@@ -42,9 +45,9 @@ fn put_field(out: &mut [u8], at: usize, n: u32, behind: u8) -> usize
 }
 
 fn put_answer(out: &mut [u8], at: usize, a: Answer) -> usize
-    requires { ⌜ at + 16 ≤ length (now out) ⌝ }
+    requires { ⌜ at + answerRoom ≤ length (now out) ⌝ }
     requires { ⌜ a .rule < 1000 ⌝ }
-    ensures { λ r. ⌜ Put 16 (now (out .entry)) at (answerText a) r (now (out .exit)) ⌝ }
+    ensures { λ r. ⌜ Put answerRoom (now (out .entry)) at (answerText a) r (now (out .exit)) ⌝ }
 {
     let verdict = a.verdict;
     let rule = a.rule;
@@ -58,8 +61,8 @@ fn put_answer(out: &mut [u8], at: usize, a: Answer) -> usize
 
 // Stores the answer to a line from `at` on, and says where its text ends.
 pub(crate) fn put_line(line: &[u8], out: &mut [u8], at: usize) -> usize
-    requires { ⌜ at + 16 ≤ length (now out) ⌝ }
-    ensures { λ r. ⌜ Put 16 (now (out .entry)) at (lineText (now (line .entry))) r (now (out .exit)) ⌝ }
+    requires { ⌜ at + answerRoom ≤ length (now out) ⌝ }
+    ensures { λ r. ⌜ Put answerRoom (now (out .entry)) at (lineText (now (line .entry))) r (now (out .exit)) ⌝ }
 {
     let a = answer_line(line);
     put_answer(out, at, a)

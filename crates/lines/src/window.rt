@@ -7,7 +7,9 @@ ghost use lib.ListN.{length, take, drop};
 ghost use Rattle.ascii.specs.Area.{Put};
 ghost use Rattle.lines.specs.Window.{usedOf, writtenOf, clipped, lastOf};
 ghost use Rattle.lines.specs.Inner.{upto, StepRight};
+use super::line::LINE_BYTES;
 use super::line::least;
+use super::put::ANSWER_ROOM;
 use super::put::put_line;
 
 // Whether one of the eight bytes from i on is a newline: eight tests without a branch.
@@ -57,7 +59,7 @@ struct Fed {
     put: usize,
 }
 
-// Answers the whole lines of s, one after the other, as long as out has 16 bytes left.
+// Answers the whole lines of s, one after the other, as long as out has room for an answer.
 fn feed(s: &[u8], out: &mut [u8]) -> Fed
     ensures used { λ r. ⌜ r .used ≡ usedOf (length (now (out .entry))) (now (s .entry)) ⌝ }
     ensures within { λ r. ⌜ r .used ≤ length (now (s .entry)) ⌝ }
@@ -66,7 +68,7 @@ fn feed(s: &[u8], out: &mut [u8]) -> Fed
     let mut used = 0;
     let mut put = 0;
     while used < s.len() {
-        if out.len() - put < 16 {
+        if out.len() - put < ANSWER_ROOM {
             return Fed { used, put };
         }
         let rest = &s[used..];
@@ -80,18 +82,18 @@ fn feed(s: &[u8], out: &mut [u8]) -> Fed
     Fed { used, put }
 }
 
-// How much of a rest is kept: of a line that no newline ends yet, the 1,033 bytes that are read.
+// How much of a rest is kept: of a line that no newline ends yet, the bytes that are read.
 fn keep_len(rest: &[u8]) -> usize
     ensures exact { λ r. ⌜ r ≡ length (clipped (now (rest .entry))) ⌝ }
     ensures within { λ r. ⌜ r ≤ length (now (rest .entry)) ⌝ }
     ensures front { λ r. ⌜ take r (now (rest .entry)) ≡ clipped (now (rest .entry)) ⌝ }
 {
     let n = rest.len();
-    if n <= 1033 {
+    if n <= LINE_BYTES {
         return n;
     }
     if line_len(rest) == n {
-        return 1033;
+        return LINE_BYTES;
     }
     n
 }
@@ -134,7 +136,7 @@ pub fn last(s: &[u8], out: &mut [u8]) -> usize
     if s.len() == 0 {
         return 0;
     }
-    if out.len() < 16 {
+    if out.len() < ANSWER_ROOM {
         return 0;
     }
     put_line(s, out, 0)

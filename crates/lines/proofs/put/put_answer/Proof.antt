@@ -1,4 +1,4 @@
--- `lines::put::put_answer` stores the four numbers of an answer.
+-- `lines::put::put_answer` stores the text of an answer.
 use native.Mathlib.Omega.{arith}
 use Rattle.answer.proofs.Laws.{reason-small}
 use Rattle.lines.proofs.Small.{verdict-small, severity-small}
