@@ -14,10 +14,12 @@ use Rattle.answer.specs.Answers.{answerNumbers}
 use Rattle.lines.specs.Line.{lineBytes, answerOf}
 use Rattle.lines.specs.Text.{numbersText, field, numeral, answerText, lineText, answerRoom}
 use Rattle.lines.specs.Stream.{split, linesOf, inTurn, answersTo, answers}
-use Rattle.lines.specs.Window.{usedOf, writtenOf, clipped, keptOf, lastOf, writtenAll, keptAll}
+use Rattle.lines.specs.Window.{usedOf, writtenOf, clipped, keptOf, lastOf}
+use Rattle.lines.specs.Turn.{Run, over, next}
 use Rattle.lines.specs.Inner.{upto}
 use Rattle.lines.proofs.Heads.{answer-cut}
 use Rattle.lines.proofs.Splits.{by, Open, upto-le, split-line, open-take, fronted, lines-open, fronted-first, fronted-alone}
+use Rattle.lines.proofs.Turns.{over-none, over-writes, next-writes}
 use Rattle.lines.proofs.Windows.{Stops, stops-full, stops-open, written-none, used-none, written-line, used-line, clipped-line, clipped-open, last-none, last-line}
 
 -- ---- a line that is cut
@@ -125,18 +127,6 @@ continue room s t =
     told-at (length s) room s t (omega arith)
     ∙ ap (λ (a : List ℕ). writtenOf room s ++ a) (sym (kept-same (drop (usedOf room s) s) t))
 
--- ---- chunk by chunk
-
-pub chunks : (room : ℕ) (kept : List ℕ) (cs : List (List ℕ)) (t : List ℕ)
-    → answers (kept ++ (joined cs ++ t)) ≡ writtenAll room kept cs ++ answers (keptAll room kept cs ++ t)
-unfolding joined writtenAll keptAll
-chunks room kept [] t = refl
-chunks room kept (c ∷ cs) t =
-    ap answers (ap (λ (l : List ℕ). kept ++ l) (append-assoc c (joined cs) t) ∙ sym (append-assoc kept c (joined cs ++ t)))
-    ∙ continue room (kept ++ c) (joined cs ++ t)
-    ∙ ap (λ (a : List ℕ). writtenOf room (kept ++ c) ++ a) (chunks room (keptOf room (kept ++ c)) cs t)
-    ∙ sym (append-assoc (writtenOf room (kept ++ c)) (writtenAll room (keptOf room (kept ++ c)) cs) (answers (keptAll room (keptOf room (kept ++ c)) cs ++ t)))
-
 -- ---- the end of the input
 
 some : (d t : List ℕ) (b : ℕ) → 0 < length ((d ++ b ∷ []) ++ t)
@@ -186,8 +176,18 @@ finish room s h e =
     let o : Open s = nothing-open room s h e in
     rw (used-none room s (stops-open room s o), clipped-open s o) (last-open room s h o)
 
--- The whole run: the chunks cs, a step for each, and then a read that gives c and a step that writes nothing.
-pub whole-run : (room : ℕ) (cs : List (List ℕ)) (c : List ℕ) → answerRoom ≤ room → writtenOf room (keptAll room [] cs ++ c) ≡ []
-    → writtenAll room [] cs ++ lastOf room (keptOf room (keptAll room [] cs ++ c)) ≡ answers (joined cs ++ c)
-whole-run room cs c h e =
-    ap (λ (a : List ℕ). writtenAll room [] cs ++ a) (finish room (keptAll room [] cs ++ c) h e) ∙ sym (chunks room [] cs c)
+-- ---- turn by turn
+
+run-on : {room : ℕ} {kept : List ℕ} {chunks : List (List ℕ)} {out : List ℕ} → answerRoom ≤ room → Run room kept chunks out → out ≡ answers (kept ++ joined chunks)
+unfolding joined
+run-on {room} {kept} h (over {chunk = c} e) =
+    over-writes room (length c) (kept ++ c) e
+    ∙ finish room (kept ++ c) h (over-none room (length c) (kept ++ c) e)
+    ∙ rw (append-nil c)
+run-on {room} {kept} h (next {chunk = c} {chunks = cs} {out = out} e r) =
+    rw (next-writes room (length c) (kept ++ c) e, run-on h r)
+    (sym (continue room (kept ++ c) (joined cs)) ∙ rw (append-assoc kept c (joined cs)))
+
+-- Whatever the chunks, the turns up to the one that is over write the answers to the whole input.
+pub whole-run : {room : ℕ} {chunks : List (List ℕ)} {out : List ℕ} → answerRoom ≤ room → Run room [] chunks out → out ≡ answers (joined chunks)
+whole-run h r = run-on h r

@@ -5,5 +5,6 @@ pub mod Texts
 pub mod Splits
 pub mod Feeding
 pub mod Windows
+pub mod Turns
 pub mod Batches
 pub mod Chunks

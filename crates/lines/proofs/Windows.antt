@@ -2,7 +2,7 @@
 use mathlib.Core.Path.{_≡_, refl, sym, _∙_, ap}
 use mathlib.Core.Bool.{Bool, true, false, _&&_}
 use mathlib.Core.List.{List, [], _∷_, _++_}
-use Prim.Native.Nat.{ℕ, _+_, _-_, _≤_, _<_, min}
+use Prim.Native.Nat.{ℕ, _+_, _-_, _≤_, _<_}
 use native.Mathlib.Nat.{add-comm, zero-add}
 use native.Mathlib.Numerals.{add-one}
 use native.Mathlib.Omega.{arith}
@@ -18,7 +18,7 @@ use Rattle.lines.specs.Text.{lineText, answerRoom}
 use Rattle.lines.specs.Stream.{inTurn}
 use Rattle.lines.specs.Window.{ended, fitting, extent, writtenOf, usedOf, clipped, keptOf, lastOf}
 use Rattle.lines.specs.Inner.{upto, StepRight}
-use Rattle.lines.proofs.Heads.{drop-take, take-least}
+use Rattle.lines.proofs.Heads.{drop-take}
 use Rattle.lines.proofs.Feeding.{Feeding, feeding-on, feeding-laid, part-tail}
 use Rattle.lines.proofs.Splits.{by, Open, upto-le, ended-line, ended-open, among-line, among-open}
 
@@ -142,59 +142,50 @@ shifted b b′ from n h e =
 
 -- ---- one step
 
-module _ (b b′ o o′ : List ℕ) (n m used put keep : ℕ) (em : m ≡ min (length b) n)
-    (eu : used ≡ usedOf (length o) (take m b)) (within : used ≤ length (take m b)) (fed : Put (length o) o 0 (writtenOf (length o) (take m b)) put o′)
-    (ek : keep ≡ length (clipped (take (m - used) (drop used b)))) (inside : keep ≤ length (take (m - used) (drop used b)))
-    (front : take keep (take (m - used) (drop used b)) ≡ clipped (take (m - used) (drop used b)))
+module _ (b b′ o o′ : List ℕ) (n used put keep : ℕ) (h : n ≤ length b)
+    (eu : used ≡ usedOf (length o) (take n b)) (within : used ≤ length (take n b)) (fed : Put (length o) o 0 (writtenOf (length o) (take n b)) put o′)
+    (ek : keep ≡ length (clipped (take (n - used) (drop used b)))) (inside : keep ≤ length (take (n - used) (drop used b)))
+    (front : take keep (take (n - used) (drop used b)) ≡ clipped (take (n - used) (drop used b)))
     (moved : Put keep b 0 (take keep (drop used b)) keep b′) where
-  whole : take n b ≡ take m b
-  whole = rw (em, take-least b n)
+  n-length : length (take n b) ≡ n
+  n-length = length-take-le n b h
 
-  m-length : length (take m b) ≡ m
-  m-length = length-take-le m b (omega arith)
+  rest : drop used (take n b) ≡ take (n - used) (drop used b)
+  rest = drop-take used n b
 
-  rest : drop used (take m b) ≡ take (m - used) (drop used b)
-  rest = drop-take used m b
-
-  rest-length : length (take (m - used) (drop used b)) ≡ m - used
-  rest-length = sym (ap length rest) ∙ length-drop used (take m b) ∙ ap (λ (k : ℕ). k - used) m-length
-
-  keep-le : keep ≤ m - used
-  keep-le = omega (arith, inside, rest-length)
-
-  used-le : used ≤ m
-  used-le = omega (arith, within, m-length)
+  keep-le : keep ≤ n - used
+  keep-le = omega (arith, inside, ap length rest, length-drop used (take n b), n-length)
 
   kept : keptOf (length o) (take n b) ≡ take keep (drop used b)
   unfolding keptOf
-  kept =
-      rw (whole, ← eu, rest)
-      (sym front ∙ take-take keep (m - used) (drop used b) keep-le)
-
-  held : Put (length b) b 0 (keptOf (length o) (take n b)) keep b′
-  held = rw kept (put-most moved (omega (arith, moved .few, keep-le, used-le, em)))
+  kept = rw (← eu, rest) (sym front ∙ take-take keep (n - used) (drop used b) keep-le)
 
   moves : lineBytes < length b → answerRoom ≤ length o → keep < length b
   moves big room =
-      by (ltb (upto (take m b)) (length (take m b)))
+      by (ltb (upto (take n b)) (length (take n b)))
       (λ e.
       omega (
         arith,
-        used-line (length o) (take m b) (upto (take m b)) refl room (ltb-true _ _ e),
+        used-line (length o) (take n b) (upto (take n b)) refl room (ltb-true _ _ e),
         eu,
         keep-le,
-        used-le,
-        em,
+        within,
+        n-length,
       ))
       (λ e.
-      let op : Open (take m b) = omega (arith, upto-le (take m b), ltb-false (upto (take m b)) (length (take m b)) e) in
-      let z : used ≡ 0 = eu ∙ used-none (length o) (take m b) (stops-open (length o) (take m b) op) in
-      let c : clipped (take (m - used) (drop used b)) ≡ take lineBytes (take m b) =
-      ap clipped (sym rest ∙ ap (λ (k : ℕ). drop k (take m b)) z) ∙ clipped-open (take m b) op in
-      omega (arith, ek, ap length c, length-take lineBytes (take m b)))
+      let op : Open (take n b) = omega (arith, upto-le (take n b), ltb-false (upto (take n b)) (length (take n b)) e) in
+      let z : used ≡ 0 = eu ∙ used-none (length o) (take n b) (stops-open (length o) (take n b) op) in
+      let c : clipped (take (n - used) (drop used b)) ≡ take lineBytes (take n b) =
+      ap clipped (sym rest ∙ ap (λ (k : ℕ). drop k (take n b)) z) ∙ clipped-open (take n b) op in
+      omega (arith, ek, ap length c, length-take lineBytes (take n b)))
 
   pub step-right : StepRight (take n b) b b′ o o′ keep put
-  step-right = record { written = rw whole fed; held = held; moves = moves }
+  step-right =
+      record {
+        written = fed;
+        held = rw kept (put-most moved (omega (arith, moved .few, keep-le)));
+        moves = moves;
+      }
 
 -- ---- a last line
 

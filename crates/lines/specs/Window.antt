@@ -1,6 +1,6 @@
 -- What one step does with a window s of the input, and an output area of `room` bytes.
 use mathlib.Core.Bool.{false, _&&_}
-use mathlib.Core.List.{List, [], _∷_, _++_}
+use mathlib.Core.List.{List, [], _∷_}
 use Prim.Native.Nat.{ℕ, _+_, _-_}
 use lib.Dec.{leb}
 use lib.ListN.{length, take, drop}
@@ -43,15 +43,3 @@ keptOf room s = clipped (drop (usedOf room s) s)
 -- what is written for a last line that no newline ends
 unfoldable pub lastOf : ℕ → List ℕ → List ℕ
 lastOf room s = pick (leb answerRoom room && leb 1 (length s)) (lineText s) []
-
--- ---- chunk by chunk
-
--- what is written over the chunks of an input, a step for each, where `kept` is kept before
-unfoldable pub writtenAll : ℕ → List ℕ → List (List ℕ) → List ℕ
-writtenAll room kept [] = []
-writtenAll room kept (c ∷ cs) = writtenOf room (kept ++ c) ++ writtenAll room (keptOf room (kept ++ c)) cs
-
--- and what is kept after them
-unfoldable pub keptAll : ℕ → List ℕ → List (List ℕ) → List ℕ
-keptAll room kept [] = kept
-keptAll room kept (c ∷ cs) = keptAll room (keptOf room (kept ++ c)) cs

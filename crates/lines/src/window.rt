@@ -8,7 +8,6 @@ ghost use Rattle.ascii.specs.Area.{Put};
 ghost use Rattle.lines.specs.Window.{usedOf, writtenOf, clipped, lastOf};
 ghost use Rattle.lines.specs.Inner.{upto, StepRight};
 use super::line::LINE_BYTES;
-use super::line::least;
 use super::put::ANSWER_ROOM;
 use super::put::put_line;
 
@@ -110,27 +109,26 @@ fn shift(buf: &mut [u8], from: usize, n: usize)
     }
 }
 
-pub struct Stepped {
+pub(crate) struct Stepped {
     pub kept: usize,
     pub put: usize,
 }
 
-// One turn over a window: buf[..n] is input that is not answered yet. Stores the answers to its whole lines at the start of out,
-// and moves what is kept of the rest to the start of buf.
-pub fn step(buf: &mut [u8], n: usize, out: &mut [u8]) -> Stepped
+// Stores the answers to the whole lines of buf[..n] at the start of out, and moves what is kept of the rest to the start of buf.
+pub(crate) fn step(buf: &mut [u8], n: usize, out: &mut [u8]) -> Stepped
+    requires { ⌜ n ≤ length (now buf) ⌝ }
     ensures { λ r. ⌜ StepRight (take n (now (buf .entry))) (now (buf .entry)) (now (buf .exit)) (now (out .entry)) (now (out .exit)) (r .kept) (r .put) ⌝ }
 {
-    let m = least(buf.len(), n);
-    let fed = feed(&buf[..m], out);
+    let fed = feed(&buf[..n], out);
     let used = fed.used;
     let put = fed.put;
-    let keep = keep_len(&buf[used..m]);
+    let keep = keep_len(&buf[used..n]);
     shift(buf, used, keep);
     Stepped { kept: keep, put }
 }
 
 // The answer to a last line that no newline ends, stored at the start of out.
-pub fn last(s: &[u8], out: &mut [u8]) -> usize
+pub(crate) fn last(s: &[u8], out: &mut [u8]) -> usize
     ensures { λ r. ⌜ Put (length (now (out .entry))) (now (out .entry)) 0 (lastOf (length (now (out .entry))) (now (s .entry))) r (now (out .exit)) ⌝ }
 {
     if s.len() == 0 {
