@@ -58,11 +58,11 @@ def area(crates: pathlib.Path) -> str:
 
 def answer_numbers(crates: pathlib.Path, structs: dict[str, list[Typed]]) -> str:
     """The numbers that a line has room for are those of an answer, in the order of its struct."""
-    batch = (crates / "lines/specs/Batch.antt").read_text()
-    written = re.search(r"^fourNumbers a =([^\[]*)\[\]$", batch, re.M)
+    answers = (crates / "answer/specs/Answers.antt").read_text()
+    written = re.search(r"^answerNumbers a =([^\[]*)\[\]$", answers, re.M)
     if not written or re.findall(r"a \.(\w+)", written[1]) != [name for _, name in structs["partyid_answer"]]:
-        raise Unreadable("lines/specs/Batch.antt: fourNumbers has other numbers than PartyidAnswer, or in another order")
-    return number_in(crates, "lines/specs/Batch.antt", r"^batched room s = take \(room / (\d+)\)")
+        raise Unreadable("answer/specs/Answers.antt: answerNumbers has other numbers than PartyidAnswer, or in another order")
+    return number_in(crates, "lines/specs/Batch.antt", r"^numbersEach = (\d+)$")
 
 
 def constants(crates: pathlib.Path, structs: dict[str, list[Typed]]) -> dict[str, str]:

@@ -68,6 +68,15 @@ module _ {most : ℕ} {old : List ℕ} {at : ℕ} {b : List ℕ} {end : ℕ} {ne
       let e : end ≡ length b = rw z at (p .ends) ∙ zero-add (length b) in
       rw (p .now, z, put-start old b) (take-at b (drop (length b) old) end (sym e))
 
+  -- with another bound
+  pub put-most : {bound : ℕ} → length b ≤ bound → Put bound old at b end new
+  put-most h = record { now = p .now; ends = p .ends; few = h }
+
+-- stores one behind the other
+pub put-stores : {most : ℕ} {old : List ℕ} {at : ℕ} {b : List ℕ} {end : ℕ} {new : List ℕ}
+    → new ≡ sets old at b → end ≡ at + length b → length b ≤ most → at + length b ≤ length old → Put most old at b end new
+put-stores {most} {old} {at} {b} e f g h = record { now = e ∙ put-sets old at b h; ends = f; few = g }
+
 -- nothing
 pub put-none : (most : ℕ) (a : List ℕ) (at : ℕ) → Put most a at [] at a
 put-none most a at = record { now = sym (put-nil a at); ends = omega arith; few = omega arith }

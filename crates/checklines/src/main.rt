@@ -1,6 +1,8 @@
 // Answers each line of standard input by a line on standard output.
 ghost use Prim.Native.Nat.{_<_, _≤_};
 ghost use lib.ListN.{length};
+ghost use Rattle.lines.specs.Line.{lineBytes};
+ghost use Rattle.lines.specs.Text.{answerRoom};
 use libc::STDIN_FILENO;
 use libc::STDOUT_FILENO;
 
@@ -19,12 +21,11 @@ fn write(text: &[u8]) -> bool {
     is_written
 }
 
-// One turn: reads behind what is kept, answers the whole lines and writes. Where the input has ended and no whole line is left,
-// it answers the last line, which no newline ends.
+// One turn: reads behind what is kept, answers, and writes.
 fn turn(buf: &mut [u8], kept: usize, out: &mut [u8]) -> Next
     requires { ⌜ kept < length (now buf) ⌝ }
-    requires { ⌜ 1033 < length (now buf) ⌝ }
-    requires { ⌜ 16 ≤ length (now out) ⌝ }
+    requires { ⌜ lineBytes < length (now buf) ⌝ }
+    requires { ⌜ answerRoom ≤ length (now out) ⌝ }
     ensures { λ r. ⌜ r .kept < length (now (buf .exit)) ⌝ }
 {
     let got = libc::read(STDIN_FILENO, &mut buf[kept..]);
@@ -33,26 +34,18 @@ fn turn(buf: &mut [u8], kept: usize, out: &mut [u8]) -> Next
         return Next { go: false, kept: 0 };
     }
     let fresh = io::count(got, &buf[kept..]);
-    let done = lines::step(buf, kept + fresh, out);
+    let done = lines::turn(buf, kept, fresh, out);
     let put = done.put;
-    let next = done.kept;
-    if put == 0 {
-        if fresh == 0 {
-            let end = lines::last(&buf[..next], out);
-            write(&out[..end]);
-            return Next {
-                go: false,
-                kept: next,
-            };
-        }
+    let is_written = write(&out[..put]);
+    Next {
+        go: is_written & !done.over,
+        kept: done.kept,
     }
-    let go = write(&out[..put]);
-    Next { go, kept: next }
 }
 
 fn answer_all(buf: &mut [u8], out: &mut [u8])
-    requires { ⌜ 1033 < length (now buf) ⌝ }
-    requires { ⌜ 16 ≤ length (now out) ⌝ }
+    requires { ⌜ lineBytes < length (now buf) ⌝ }
+    requires { ⌜ answerRoom ≤ length (now out) ⌝ }
 {
     let mut kept = 0;
     let mut turns = u64::MAX;

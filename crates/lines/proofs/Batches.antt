@@ -6,15 +6,18 @@ use Prim.Native.Nat.{ℕ, suc, _+_, _-_, _*_, _/_, _≤_, _<_, min}
 use native.Mathlib.Numerals.{add-one}
 use native.Mathlib.Omega.{arith}
 use lib.Dec.{ltb}
-use lib.ListN.{length, take, drop, set, length-append, length-drop, length-set, drop-of-length-le}
+use lib.ListN.{length, take, drop, set, length-append, length-drop, drop-of-length-le}
 use lib.Seq.{take-all, take-nil, length-take-le}
 use borrow.Author.Tests.{ltb-true, ltb-false}
+use Rattle.ascii.specs.Area.{Put}
+use Rattle.ascii.proofs.Area.{put-stores}
 use Rattle.answer.specs.declared.record.Answer.{Answer}
 use Rattle.answer.specs.Numbers.{verdictNumber, severityNumber, reasonNumber}
-use Rattle.lines.specs.Line.{answerOf}
+use Rattle.answer.specs.Answers.{answerNumbers}
 use Rattle.lines.specs.Stream.{inTurn, linesOf, split}
-use Rattle.lines.specs.Window.{extent, upto, Stored}
-use Rattle.lines.specs.Batch.{fourNumbers, lineNumbers, batched, numbersOf, spannedOf, BatchRight}
+use Rattle.lines.specs.Window.{extent}
+use Rattle.lines.specs.Inner.{upto}
+use Rattle.lines.specs.Batch.{numbersEach, lineNumbers, batched, numbersOf, spannedOf, BatchRight}
 use Rattle.lines.proofs.Splits.{by, Open, upto-le, split-line, fronted, lines-open, fronted-alone}
 use Rattle.lines.proofs.Feeding.{Feeding, feeding-on, feeding-laid}
 
@@ -58,38 +61,38 @@ module _ (s : List ℕ) (n m : ℕ) (en : n ≡ upto s) (em : m ≡ min (n + 1) 
 
 -- ---- the lines for which there is room
 
-quarter : (room : ℕ) → 4 ≤ room → room / 4 ≡ suc ((room - 4) / 4)
+quarter : (room : ℕ) → numbersEach ≤ room → room / numbersEach ≡ suc ((room - numbersEach) / numbersEach)
 quarter room h = omega arith
 
-no-quarter : (room : ℕ) → room < 4 → room / 4 ≡ 0
+no-quarter : (room : ℕ) → room < numbersEach → room / numbersEach ≡ 0
 no-quarter room h = omega arith
 
-pub batched-full : (room : ℕ) (s : List ℕ) → room < 4 → batched room s ≡ []
+pub batched-full : (room : ℕ) (s : List ℕ) → room < numbersEach → batched room s ≡ []
 unfolding batched
 batched-full room s h = rw (no-quarter room h)
 
 pub batched-none : (room : ℕ) (s : List ℕ) → length s ≡ 0 → batched room s ≡ []
 unfolding batched
-batched-none room [] e = rw lines-none (take-nil {A = List ℕ} (room / 4))
+batched-none room [] e = rw lines-none (take-nil {A = List ℕ} (room / numbersEach))
 batched-none room (b ∷ s) e = absurd (omega arith)
 
-pub four-long : (l : List ℕ) → length (lineNumbers l) ≡ 4
-unfolding lineNumbers fourNumbers
-four-long l = refl
+pub numbers-each : (l : List ℕ) → length (lineNumbers l) ≡ numbersEach
+unfolding lineNumbers answerNumbers
+numbers-each l = refl
 
-numbers-long : (ls : List (List ℕ)) → length (inTurn lineNumbers ls) ≡ 4 * length ls
+numbers-long : (ls : List (List ℕ)) → length (inTurn lineNumbers ls) ≡ numbersEach * length ls
 unfolding inTurn
 numbers-long [] = refl
 numbers-long (l ∷ ls) =
-    omega (arith, length-append (lineNumbers l) (inTurn lineNumbers ls), four-long l, numbers-long ls)
+    omega (arith, length-append (lineNumbers l) (inTurn lineNumbers ls), numbers-each l, numbers-long ls)
 
-module _ (room : ℕ) (s : List ℕ) (n m : ℕ) (en : n ≡ upto s) (em : m ≡ min (n + 1) (length s)) (free : 4 ≤ room) (h : 0 < length s) where
+module _ (room : ℕ) (s : List ℕ) (n m : ℕ) (en : n ≡ upto s) (em : m ≡ min (n + 1) (length s)) (free : numbersEach ≤ room) (h : 0 < length s) where
   abbrev left : ℕ
   left = room - length (lineNumbers (take n s))
 
   batched-first : batched room s ≡ take n s ∷ batched left (drop m s)
   unfolding batched
-  batched-first = rw (quarter room free, first s n m en em h, four-long (take n s))
+  batched-first = rw (quarter room free, first s n m en em h, numbers-each (take n s))
 
   pub numbers-first : numbersOf room s ≡ lineNumbers (take n s) ++ numbersOf left (drop m s)
   unfolding numbersOf inTurn
@@ -121,14 +124,14 @@ abbrev pub Batching : List ℕ → List ℕ → List ℕ → ℕ → ℕ → Typ
 Batching s old new used put = Feeding numbersOf spannedOf s old new used put
 
 module _ (s o new new′ rest : List ℕ) (used put put′ n m : ℕ) (f : Batching s o new used put) (er : rest ≡ take (length s - used) (drop used s))
-    (en : n ≡ upto rest) (em : m ≡ min (n + 1) (length rest)) (h : 0 < length rest) (room : put + 4 ≤ length new)
-    (st : Stored new new′ put put′ (lineNumbers (take n rest)) 4) where
-  free : 4 ≤ length o - put
+    (en : n ≡ upto rest) (em : m ≡ min (n + 1) (length rest)) (h : 0 < length rest) (room : put + numbersEach ≤ length new)
+    (st : Put numbersEach new put (lineNumbers (take n rest)) put′ new′) where
+  free : numbersEach ≤ length o - put
   free = omega (arith, f .size)
 
   pub batching-line : Batching s o new′ (used + m) put′
   batching-line =
-      feeding-on numbersOf spannedOf s o new new′ rest (lineNumbers (take n rest)) used (used + m) put put′ m 4 f er refl (omega (arith, em))
+      feeding-on numbersOf spannedOf s o new new′ rest (lineNumbers (take n rest)) used (used + m) put put′ m numbersEach f er refl (omega (arith, em))
       (numbers-first (length o - put) rest n m en em free h)
       (spanned-first (length o - put) rest n m en em free h)
       room
@@ -143,32 +146,22 @@ module _ (s o new : List ℕ) (used put : ℕ) (f : Batching s o new used put) (
   unfolding spannedOf extent
   no-span = rw stop (omega arith)
 
-  all-long : length (numbersOf (length o) s) ≡ 4 * length (batched (length o) s)
+  all-long : length (numbersOf (length o) s) ≡ numbersEach * length (batched (length o) s)
   unfolding numbersOf
   all-long = numbers-long (batched (length o) s)
 
-  pub batch-right : BatchRight s o new (put / 4) used
+  pub batch-right : BatchRight s o new (put / numbersEach) used
   batch-right =
       let l = feeding-laid numbersOf spannedOf s o new used put f nothing in
       record {
-        wrote = l .wrote;
-        counted = omega (arith, l .counted, all-long);
+        wrote = l .now;
+        counted = omega (arith, l .ends, all-long);
         spanned = omega (arith, f .uses, no-span);
       }
 
--- ---- four numbers, stored one behind the other
+-- ---- the numbers of an answer, stored one behind the other
 
-pub put-four : (a : Answer) (l : List ℕ) (at v s w : ℕ) → v ≡ verdictNumber (a .verdict) → s ≡ severityNumber (a .severity) → w ≡ reasonNumber (a .reason)
-    → Stored l (set (set (set (set l at v) (at + 1) (a .rule)) (at + 1 + 1) s) (at + 1 + 1 + 1) w) at (at + 1 + 1 + 1 + 1) (fourNumbers a) 4
-unfolding fourNumbers
-put-four a l at v s w ev es ew =
-    record {
-      wrote = rw (← ev, ← es, ← ew) (simp add-one);
-      next = omega arith;
-      short = omega arith;
-      size = simp length-set;
-    }
-
-pub put-line-numbers : (line o o′ : List ℕ) (at r : ℕ) (a : Answer) → a ≡ answerOf line → Stored o o′ at r (fourNumbers a) 4 → Stored o o′ at r (lineNumbers line) 4
-unfolding lineNumbers
-put-line-numbers line o o′ at r a e st = rw (← e) st
+pub put-numbers : (a : Answer) (l : List ℕ) (at v s w : ℕ) → at + numbersEach ≤ length l → v ≡ verdictNumber (a .verdict) → s ≡ severityNumber (a .severity) → w ≡ reasonNumber (a .reason)
+    → Put numbersEach l at (answerNumbers a) (at + 1 + 1 + 1 + 1) (set (set (set (set l at v) (at + 1) (a .rule)) (at + 1 + 1) s) (at + 1 + 1 + 1) w)
+unfolding answerNumbers
+put-numbers a l at v s w h ev es ew = rw (← ev, ← es, ← ew) (put-stores (simp add-one) (omega arith) (omega arith) (omega arith))

@@ -8,14 +8,18 @@ use lib.Dec.{leb, ltb}
 use lib.ListN.{length, take, drop, length-append, length-take, length-drop}
 use lib.Seq.{take-nil, drop-drop}
 use borrow.Author.Tests.{leb-true, leb-false, ltb-true, ltb-false}
+use Rattle.ascii.specs.Area.{joined}
 use Rattle.answer.specs.declared.record.Answer.{Answer}
-use Rattle.answer.specs.Numbers.{verdictNumber, severityNumber, reasonNumber}
-use Rattle.lines.specs.Line.{newline, answerOf}
-use Rattle.lines.specs.Text.{field, decimal, textOf, lineText}
+use Rattle.answer.specs.Answers.{answerNumbers}
+use Rattle.lines.specs.Line.{lineBytes, answerOf}
+use Rattle.lines.specs.Text.{numbersText, field, numeral, answerText, lineText, answerRoom}
 use Rattle.lines.specs.Stream.{split, linesOf, inTurn, answersTo, answers}
-use Rattle.lines.specs.Window.{usedOf, writtenOf, clipped, keptOf, lastOf, upto, writtenAll, keptAll, joined}
+use Rattle.lines.specs.Window.{usedOf, writtenOf, clipped, keptOf, lastOf}
+use Rattle.lines.specs.Turn.{Run, over, next}
+use Rattle.lines.specs.Inner.{upto}
 use Rattle.lines.proofs.Heads.{answer-cut}
 use Rattle.lines.proofs.Splits.{by, Open, upto-le, split-line, open-take, fronted, lines-open, fronted-first, fronted-alone}
+use Rattle.lines.proofs.Turns.{over-none, over-writes, next-writes}
 use Rattle.lines.proofs.Windows.{Stops, stops-full, stops-open, written-none, used-none, written-line, used-line, clipped-line, clipped-open, last-none, last-line}
 
 -- ---- a line that is cut
@@ -25,14 +29,14 @@ take-cut zero p r = refl
 take-cut (suc n) [] r = refl
 take-cut (suc n) (x ∷ p) r = ap (λ (l : List ℕ). x ∷ l) (take-cut n p r)
 
-pub line-cut : (p r : List ℕ) → lineText (take 1033 p ++ r) ≡ lineText (p ++ r)
+pub line-cut : (p r : List ℕ) → lineText (take lineBytes p ++ r) ≡ lineText (p ++ r)
 unfolding lineText
 line-cut p r =
-    ap textOf
-    (sym (answer-cut (take 1033 p ++ r)) ∙ ap answerOf (take-cut 1033 p r) ∙ answer-cut (p ++ r))
+    ap answerText
+    (sym (answer-cut (take lineBytes p ++ r)) ∙ ap answerOf (take-cut lineBytes p r) ∙ answer-cut (p ++ r))
 
-line-clip : (p : List ℕ) → lineText (take 1033 p) ≡ lineText p
-line-clip p = rw (append-nil (take 1033 p), append-nil p) at (line-cut p [])
+line-clip : (p : List ℕ) → lineText (take lineBytes p) ≡ lineText p
+line-clip p = rw (append-nil (take lineBytes p), append-nil p) at (line-cut p [])
 
 -- ---- answers to lines
 
@@ -50,7 +54,7 @@ answers-line s t h = ap answersTo (split-line true s t h) ∙ answers-first (tak
 alone : (l : List ℕ) → answersTo (l ∷ []) ≡ lineText l
 alone l = answers-first l [] ∙ ap (λ (r : List ℕ). lineText l ++ r) answers-nil ∙ append-nil (lineText l)
 
-fronted-cut : (p : List ℕ) (ls : List (List ℕ)) → answersTo (fronted (take 1033 p) ls) ≡ answersTo (fronted p ls)
+fronted-cut : (p : List ℕ) (ls : List (List ℕ)) → answersTo (fronted (take lineBytes p) ls) ≡ answersTo (fronted p ls)
 fronted-cut [] [] = refl
 fronted-cut (b ∷ p) [] =
     ap answersTo (fronted-alone b (take 1032 p))
@@ -59,17 +63,17 @@ fronted-cut (b ∷ p) [] =
     ∙ sym (alone (b ∷ p))
     ∙ sym (ap answersTo (fronted-alone b p))
 fronted-cut p (l ∷ ls) =
-    ap answersTo (fronted-first (take 1033 p) l ls)
-    ∙ answers-first (take 1033 p ++ l) ls
+    ap answersTo (fronted-first (take lineBytes p) l ls)
+    ∙ answers-first (take lineBytes p ++ l) ls
     ∙ ap (λ (r : List ℕ). r ++ answersTo ls) (line-cut p l)
     ∙ sym (answers-first (p ++ l) ls)
     ∙ sym (ap answersTo (fronted-first p l ls))
 
 -- ---- what is kept serves as the rest itself
 
-pub kept-open : (p t : List ℕ) → Open p → answers (take 1033 p ++ t) ≡ answers (p ++ t)
+pub kept-open : (p t : List ℕ) → Open p → answers (take lineBytes p ++ t) ≡ answers (p ++ t)
 kept-open p t o =
-    ap answersTo (lines-open (take 1033 p) t (open-take 1033 p o))
+    ap answersTo (lines-open (take lineBytes p) t (open-take lineBytes p o))
     ∙ fronted-cut p (linesOf t)
     ∙ sym (ap answersTo (lines-open p t o))
 
@@ -90,7 +94,7 @@ Told room s t = answers (s ++ t) ≡ writtenOf room s ++ answers (drop (usedOf r
 told-stop : (room : ℕ) (s t : List ℕ) → Stops room s → Told room s t
 told-stop room s t e = rw (written-none room s e, used-none room s e)
 
-told-line : (room : ℕ) (s t : List ℕ) → upto s < length s → 16 ≤ room
+told-line : (room : ℕ) (s t : List ℕ) → upto s < length s → answerRoom ≤ room
     → ((r : ℕ) → Told r (drop (upto s + 1) s) t) → Told room s t
 told-line room s t k h told =
     let l : List ℕ = take (upto s) s in
@@ -109,7 +113,7 @@ told-at zero room (b ∷ s) t h = absurd (omega arith)
 told-at (suc n) room s t h =
     by (ltb (upto s) (length s))
     (λ e.
-    by (leb 16 room)
+    by (leb answerRoom room)
     (λ r.
     told-line room s t (ltb-true _ _ e) (leb-true _ _ r)
     (λ room′. told-at n room′ (drop (upto s + 1) s) t (omega (arith, length-drop (upto s + 1) s))))
@@ -123,36 +127,21 @@ continue room s t =
     told-at (length s) room s t (omega arith)
     ∙ ap (λ (a : List ℕ). writtenOf room s ++ a) (sym (kept-same (drop (usedOf room s) s) t))
 
--- ---- chunk by chunk
-
-pub chunks : (room : ℕ) (kept : List ℕ) (cs : List (List ℕ)) (t : List ℕ)
-    → answers (kept ++ (joined cs ++ t)) ≡ writtenAll room kept cs ++ answers (keptAll room kept cs ++ t)
-unfolding joined writtenAll keptAll
-chunks room kept [] t = refl
-chunks room kept (c ∷ cs) t =
-    ap answers (ap (λ (l : List ℕ). kept ++ l) (append-assoc c (joined cs) t) ∙ sym (append-assoc kept c (joined cs ++ t)))
-    ∙ continue room (kept ++ c) (joined cs ++ t)
-    ∙ ap (λ (a : List ℕ). writtenOf room (kept ++ c) ++ a) (chunks room (keptOf room (kept ++ c)) cs t)
-    ∙ sym (append-assoc (writtenOf room (kept ++ c)) (writtenAll room (keptOf room (kept ++ c)) cs) (answers (keptAll room (keptOf room (kept ++ c)) cs ++ t)))
-
 -- ---- the end of the input
 
-some : (x d : List ℕ) (b : ℕ) → 0 < length (x ++ (d ++ b ∷ []))
-some x d b = omega (arith, length-append x (d ++ b ∷ []), length-append d (b ∷ []))
+some : (d t : List ℕ) (b : ℕ) → 0 < length ((d ++ b ∷ []) ++ t)
+some d t b = omega (arith, length-append (d ++ b ∷ []) t, length-append d (b ∷ []))
 
-answer-some : (a : Answer) → 0 < length (textOf a)
-unfolding textOf field
-answer-some a =
-    some (field (verdictNumber (a .verdict)) 32 ++ field (a .rule) 32 ++ field (severityNumber (a .severity)) 32)
-    (decimal (reasonNumber (a .reason)))
-    newline
+answer-some : (a : Answer) → 0 < length (answerText a)
+unfolding answerText answerNumbers numbersText field
+answer-some a = some (numeral _) _ _
 
 text-some : (l : List ℕ) → 0 < length (lineText l)
 unfolding lineText
 text-some l = answer-some (answerOf l)
 
 -- a step that writes nothing, where there is room, has met no newline
-pub nothing-open : (room : ℕ) (s : List ℕ) → 16 ≤ room → writtenOf room s ≡ [] → Open s
+pub nothing-open : (room : ℕ) (s : List ℕ) → answerRoom ≤ room → writtenOf room s ≡ [] → Open s
 nothing-open room s h e =
     by (ltb (upto s) (length s))
     (λ k.
@@ -172,23 +161,33 @@ answers-empty : answers [] ≡ []
 unfolding inTurn split
 answers-empty = refl
 
-last-open : (room : ℕ) (s : List ℕ) → 16 ≤ room → Open s → lastOf room (take 1033 s) ≡ answers s
+last-open : (room : ℕ) (s : List ℕ) → answerRoom ≤ room → Open s → lastOf room (take lineBytes s) ≡ answers s
 unfolding split
-last-open room [] h o = last-none room (take 1033 []) (ap length (take-nil {A = ℕ} 1033)) ∙ sym answers-empty
+last-open room [] h o = last-none room (take lineBytes []) (ap length (take-nil {A = ℕ} lineBytes)) ∙ sym answers-empty
 last-open room (b ∷ s) h o =
-    last-line room (take 1033 (b ∷ s)) h (λ z. absurd (omega (arith, length-take 1033 (b ∷ s))))
+    last-line room (take lineBytes (b ∷ s)) h (λ z. absurd (omega (arith, length-take lineBytes (b ∷ s))))
     ∙ line-clip (b ∷ s)
     ∙ sym (ap answersTo (rw (append-nil s) at (lines-open (b ∷ s) [] o) ∙ fronted-alone b s) ∙ alone (b ∷ s))
 
 -- where a step writes nothing, the last line's answer is the answers to what it read
-pub finish : (room : ℕ) (s : List ℕ) → 16 ≤ room → writtenOf room s ≡ [] → lastOf room (keptOf room s) ≡ answers s
+pub finish : (room : ℕ) (s : List ℕ) → answerRoom ≤ room → writtenOf room s ≡ [] → lastOf room (keptOf room s) ≡ answers s
 unfolding keptOf
 finish room s h e =
     let o : Open s = nothing-open room s h e in
     rw (used-none room s (stops-open room s o), clipped-open s o) (last-open room s h o)
 
--- The whole run: the chunks cs, a step for each, and then a read that gives c and a step that writes nothing.
-pub whole-run : (room : ℕ) (cs : List (List ℕ)) (c : List ℕ) → 16 ≤ room → writtenOf room (keptAll room [] cs ++ c) ≡ []
-    → writtenAll room [] cs ++ lastOf room (keptOf room (keptAll room [] cs ++ c)) ≡ answers (joined cs ++ c)
-whole-run room cs c h e =
-    ap (λ (a : List ℕ). writtenAll room [] cs ++ a) (finish room (keptAll room [] cs ++ c) h e) ∙ sym (chunks room [] cs c)
+-- ---- turn by turn
+
+run-on : {room : ℕ} {kept : List ℕ} {chunks : List (List ℕ)} {out : List ℕ} → answerRoom ≤ room → Run room kept chunks out → out ≡ answers (kept ++ joined chunks)
+unfolding joined
+run-on {room} {kept} h (over {chunk = c} e) =
+    over-writes room (length c) (kept ++ c) e
+    ∙ finish room (kept ++ c) h (over-none room (length c) (kept ++ c) e)
+    ∙ rw (append-nil c)
+run-on {room} {kept} h (next {chunk = c} {chunks = cs} {out = out} e r) =
+    rw (next-writes room (length c) (kept ++ c) e, run-on h r)
+    (sym (continue room (kept ++ c) (joined cs)) ∙ rw (append-assoc kept c (joined cs)))
+
+-- Whatever the chunks, the turns up to the one that is over write the answers to the whole input.
+pub whole-run : {room : ℕ} {chunks : List (List ℕ)} {out : List ℕ} → answerRoom ≤ room → Run room [] chunks out → out ≡ answers (joined chunks)
+whole-run h r = run-on h r

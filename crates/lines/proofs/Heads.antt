@@ -18,7 +18,7 @@ use Rattle.answer.specs.declared.severity.Severity.the-variants.{NoSeverity}
 use Rattle.answer.specs.declared.reason.Reason.the-variants.{Line}
 use Rattle.answer.specs.Answers.{refused}
 use Rattle.rules.specs.Check.{checkOf}
-use Rattle.lines.specs.Line.{space, headOk, termOf, contentOf, answerOf}
+use Rattle.lines.specs.Line.{space, headOk, termOf, lineContent, lineBytes, answerOf}
 
 -- ---- the head
 
@@ -57,7 +57,7 @@ pub answer-bad : (s : List ℕ) → headOk s ≡ false → refused 0 NoSeverity 
 unfolding answerOf pick
 answer-bad s e = rw e
 
-pub answer-good : (s : List ℕ) (t : ℕ) (u : List ℕ) → headOk s ≡ true → t ≡ termOf s → u ≡ contentOf s
+pub answer-good : (s : List ℕ) (t : ℕ) (u : List ℕ) → headOk s ≡ true → t ≡ termOf s → u ≡ lineContent s
     → checkOf (take 4 s) t u ≡ answerOf s
 unfolding answerOf pick
 answer-good s t u e f g = rw (e, f, g)
@@ -76,24 +76,24 @@ take-least (x ∷ l) zero = simp unary-clauses
 take-least (x ∷ l) (suc n) = simp unary-clauses (ap (λ (r : List ℕ). x ∷ r) (take-least l n))
 
 -- the content's part to the end of the line, or to its 1,025th byte
-pub content-part : (s : List ℕ) (end : ℕ) → 8 ≤ length s → end ≡ min (length s) 1033 → take (end - 8) (drop 8 s) ≡ contentOf s
-unfolding contentOf
+pub content-part : (s : List ℕ) (end : ℕ) → 8 ≤ length s → end ≡ min (length s) lineBytes → take (end - 8) (drop 8 s) ≡ lineContent s
+unfolding lineContent
 content-part s end h e =
     let k : end - 8 ≡ min (length (drop 8 s)) 1025 = omega (arith, length-drop 8 s, e) in
     ap (λ (n : ℕ). take n (drop 8 s)) k ∙ take-least (drop 8 s) 1025
 
 -- ---- a line that is cut
 
-at-cut : (s : List ℕ) (i : ℕ) → i < 1033 → getD (take 1033 s) i 0 ≡ getD s i 0
-at-cut s i h = getD-take 1033 s i 0 h
+at-cut : (s : List ℕ) (i : ℕ) → i < lineBytes → getD (take lineBytes s) i 0 ≡ getD s i 0
+at-cut s i h = getD-take lineBytes s i 0 h
 
-long-cut : (s : List ℕ) → leb 8 (length (take 1033 s)) ≡ leb 8 (length s)
+long-cut : (s : List ℕ) → leb 8 (length (take lineBytes s)) ≡ leb 8 (length s)
 long-cut s =
-    both-ways (leb 8 (length (take 1033 s))) (leb 8 (length s))
-    (λ e. le-leb 8 (length s) (omega (arith, leb-true 8 (length (take 1033 s)) e, length-take 1033 s)))
-    (λ e. le-leb 8 (length (take 1033 s)) (omega (arith, leb-true 8 (length s) e, length-take 1033 s)))
+    both-ways (leb 8 (length (take lineBytes s))) (leb 8 (length s))
+    (λ e. le-leb 8 (length s) (omega (arith, leb-true 8 (length (take lineBytes s)) e, length-take lineBytes s)))
+    (λ e. le-leb 8 (length (take lineBytes s)) (omega (arith, leb-true 8 (length s) e, length-take lineBytes s)))
 
-head-cut : (s : List ℕ) → headOk (take 1033 s) ≡ headOk s
+head-cut : (s : List ℕ) → headOk (take lineBytes s) ≡ headOk s
 unfolding headOk
 head-cut s =
     rw (
@@ -104,14 +104,14 @@ head-cut s =
       at-cut s 7 (omega arith),
     )
 
-term-cut : (s : List ℕ) → termOf (take 1033 s) ≡ termOf s
+term-cut : (s : List ℕ) → termOf (take lineBytes s) ≡ termOf s
 unfolding termOf
 term-cut s = rw (at-cut s 5 (omega arith), at-cut s 6 (omega arith))
 
-content-cut : (s : List ℕ) → contentOf (take 1033 s) ≡ contentOf s
-unfolding contentOf
-content-cut s = ap (take 1025) (drop-take 8 1033 s) ∙ take-take 1025 1025 (drop 8 s) (omega arith)
+content-cut : (s : List ℕ) → lineContent (take lineBytes s) ≡ lineContent s
+unfolding lineContent
+content-cut s = ap (take 1025) (drop-take 8 lineBytes s) ∙ take-take 1025 1025 (drop 8 s) (omega arith)
 
-pub answer-cut : (s : List ℕ) → answerOf (take 1033 s) ≡ answerOf s
+pub answer-cut : (s : List ℕ) → answerOf (take lineBytes s) ≡ answerOf s
 unfolding answerOf
-answer-cut s = rw (head-cut s, term-cut s, content-cut s, take-take 4 1033 s (omega arith))
+answer-cut s = rw (head-cut s, term-cut s, content-cut s, take-take 4 lineBytes s (omega arith))

@@ -1,36 +1,41 @@
--- An answer as text: verdict, rule, severity and reason in decimal, a space between them and a newline behind.
+-- An answer as text: its numbers in decimal, a space between two and a newline behind the last.
 use mathlib.Core.List.{List, [], _∷_, _++_}
 use Prim.Native.Nat.{ℕ, zero, suc, _+_, _/_, _%_}
 use Prim.Native.Char.{code}
 use lib.Dec.{ltb}
 use Rattle.ascii.specs.Pick.{pick}
 use Rattle.answer.specs.declared.record.Answer.{Answer}
-use Rattle.answer.specs.Numbers.{verdictNumber, severityNumber, reasonNumber}
+use Rattle.answer.specs.Answers.{answerNumbers}
 use Rattle.lines.specs.Line.{space, newline, answerOf}
 
 abbrev pub digit : ℕ → ℕ
 digit d = code "0" + d
 
 -- a number of at most so many digits
-unfoldable pub digits : ℕ → ℕ → List ℕ
-digits zero n = []
-digits (suc most) n = pick (ltb n 10) (digit n ∷ []) (digits most (n / 10) ++ digit (n % 10) ∷ [])
+unfoldable pub inDigits : ℕ → ℕ → List ℕ
+inDigits zero n = []
+inDigits (suc most) n = pick (ltb n 10) (digit n ∷ []) (inDigits most (n / 10) ++ digit (n % 10) ∷ [])
 
 -- a rule's number is a u32, which has at most ten digits
-unfoldable pub decimal : ℕ → List ℕ
-decimal n = digits 10 n
+unfoldable pub numeral : ℕ → List ℕ
+numeral n = inDigits 10 n
 
 -- a number and the byte behind it
 unfoldable pub field : ℕ → ℕ → List ℕ
-field n behind = decimal n ++ behind ∷ []
+field n behind = numeral n ++ behind ∷ []
 
-unfoldable pub textOf : Answer → List ℕ
-textOf a =
-    field (verdictNumber (a .verdict)) space
-    ++ field (a .rule) space
-    ++ field (severityNumber (a .severity)) space
-    ++ field (reasonNumber (a .reason)) newline
+unfoldable pub numbersText : List ℕ → List ℕ
+numbersText [] = []
+numbersText (n ∷ []) = field n newline
+numbersText (n ∷ m ∷ ns) = field n space ++ numbersText (m ∷ ns)
+
+unfoldable pub answerText : Answer → List ℕ
+answerText a = numbersText (answerNumbers a)
+
+-- the bytes that it takes at most: four numbers of three digits, and a byte behind each
+abbrev pub answerRoom : ℕ
+answerRoom = 16
 
 -- the text that a line is answered by
 unfoldable pub lineText : List ℕ → List ℕ
-lineText line = textOf (answerOf line)
+lineText line = answerText (answerOf line)

@@ -1,27 +1,23 @@
 -- What one step does with a window s of the input, and an output area of `room` bytes.
-use mathlib.Core.Path.{_≡_}
 use mathlib.Core.Bool.{false, _&&_}
-use mathlib.Core.List.{List, [], _∷_, _++_}
-use Prim.Native.Nat.{ℕ, suc, _+_, _-_, _≤_, _<_}
-use lib.Dec.{leb, eqb}
+use mathlib.Core.List.{List, [], _∷_}
+use Prim.Native.Nat.{ℕ, _+_, _-_}
+use lib.Dec.{leb}
 use lib.ListN.{length, take, drop}
-use lib.Seq.{sets}
-pub use Rattle.ascii.specs.Area.{over}
-unfoldable pub use Rattle.ascii.specs.Area.{joined}
 use Rattle.ascii.specs.Pick.{pick}
 use Rattle.ascii.specs.Class.{among}
-use Rattle.lines.specs.Line.{newline}
-use Rattle.lines.specs.Text.{lineText}
+use Rattle.lines.specs.Line.{newline, lineBytes}
+use Rattle.lines.specs.Text.{lineText, answerRoom}
 use Rattle.lines.specs.Stream.{split, answersTo}
 
 -- the lines that a newline ends
 abbrev pub ended : List ℕ → List (List ℕ)
 ended s = split false s
 
--- the first of some lines, as long as 16 bytes are free: four numbers of three digits and a byte behind each
+-- the first of some lines, as long as an answer has room
 unfoldable pub fitting : ℕ → List (List ℕ) → List (List ℕ)
 fitting room [] = []
-fitting room (l ∷ ls) = pick (leb 16 room) (l ∷ fitting (room - length (lineText l)) ls) []
+fitting room (l ∷ ls) = pick (leb answerRoom room) (l ∷ fitting (room - length (lineText l)) ls) []
 
 -- the bytes of some lines, newlines counted
 unfoldable pub extent : List (List ℕ) → ℕ
@@ -36,9 +32,9 @@ writtenOf room s = answersTo (fitting room (ended s))
 unfoldable pub usedOf : ℕ → List ℕ → ℕ
 usedOf room s = extent (fitting room (ended s))
 
--- of a line that no newline ends yet, the bytes that are read: 8 of its head and 1,025 of its content
+-- of a line that no newline ends yet, the bytes that are read
 unfoldable pub clipped : List ℕ → List ℕ
-clipped rest = pick (among newline rest) rest (take 1033 rest)
+clipped rest = pick (among newline rest) rest (take lineBytes rest)
 
 -- what is kept for the next step
 unfoldable pub keptOf : ℕ → List ℕ → List ℕ
@@ -46,46 +42,4 @@ keptOf room s = clipped (drop (usedOf room s) s)
 
 -- what is written for a last line that no newline ends
 unfoldable pub lastOf : ℕ → List ℕ → List ℕ
-lastOf room s = pick (leb 16 room && leb 1 (length s)) (lineText s) []
-
--- how many bytes stand before the first newline
-unfoldable pub upto : List ℕ → ℕ
-upto [] = 0
-upto (b ∷ s) = pick (eqb b newline) 0 (suc (upto s))
-
--- ---- the promises, in named parts
-
--- the area `old` has become `new`: the text stands from `at` on, every other byte stays, and r is where the text ends
-pub record Stored (old new : List ℕ) (at r : ℕ) (text : List ℕ) (most : ℕ) : Type 0 where
-  pub wrote : new ≡ sets old at text
-  pub next : r ≡ at + length text
-  pub short : r ≤ at + most
-  pub size : length new ≡ length old
-
--- a text stands at the start of the area `old`, which has become `new`; `count` is its length
-pub record Laid (old new : List ℕ) (count : ℕ) (text : List ℕ) : Type 0 where
-  pub wrote : new ≡ over text old
-  pub counted : count ≡ length text
-  pub within : count ≤ length new
-  pub size : length new ≡ length old
-  -- what `&new[..count]` asks of a caller
-  pub part : count ≡ length (take count new)
-
--- s is the window, of which `kept` bytes are kept at the start of the buffer; `put` bytes are written
-pub record StepRight (s buf buf′ out out′ : List ℕ) (kept put : ℕ) : Type 0 where
-  pub written : Laid out out′ put (writtenOf (length out) s)
-  pub held : Laid buf buf′ kept (keptOf (length out) s)
-  -- a window above 1,033 bytes has room for more input afterwards, where an answer fits
-  pub moves : 1033 < length buf → 16 ≤ length out → kept < length buf
-
--- ---- chunk by chunk
-
--- what is written over the chunks of an input, a step for each, where `kept` is kept before
-unfoldable pub writtenAll : ℕ → List ℕ → List (List ℕ) → List ℕ
-writtenAll room kept [] = []
-writtenAll room kept (c ∷ cs) = writtenOf room (kept ++ c) ++ writtenAll room (keptOf room (kept ++ c)) cs
-
--- and what is kept after them
-unfoldable pub keptAll : ℕ → List ℕ → List (List ℕ) → List ℕ
-keptAll room kept [] = kept
-keptAll room kept (c ∷ cs) = keptAll room (keptOf room (kept ++ c)) cs
+lastOf room s = pick (leb answerRoom room && leb 1 (length s)) (lineText s) []

@@ -2,15 +2,19 @@
 ghost use mathlib.Core.Path.{_≡_};
 ghost use Prim.Native.Nat.{_+_, _≤_, min};
 ghost use lib.ListN.{length};
-ghost use Rattle.lines.specs.Batch.{fourNumbers, lineNumbers, BatchRight};
-ghost use Rattle.lines.specs.Window.{Stored};
+ghost use Rattle.ascii.specs.Area.{Put};
+ghost use Rattle.answer.specs.Answers.{answerNumbers};
+ghost use Rattle.lines.specs.Batch.{numbersEach, lineNumbers, BatchRight};
 use super::line::answer_line;
 use super::window::line_len;
 use answer::Answer;
 
-fn put_four(out: &mut [u32], at: usize, a: Answer) -> usize
-    requires { ⌜ at + 4 ≤ length (now out) ⌝ }
-    ensures { λ r. ⌜ Stored (now (out .entry)) (now (out .exit)) at r (fourNumbers a) 4 ⌝ }
+// How many numbers an answer has.
+const NUMBERS: usize = 4;
+
+fn put_numbers(out: &mut [u32], at: usize, a: Answer) -> usize
+    requires { ⌜ at + numbersEach ≤ length (now out) ⌝ }
+    ensures { λ r. ⌜ Put numbersEach (now (out .entry)) at (answerNumbers a) r (now (out .exit)) ⌝ }
 {
     let verdict = a.verdict;
     let rule = a.rule;
@@ -29,12 +33,12 @@ fn put_four(out: &mut [u32], at: usize, a: Answer) -> usize
     n + 1
 }
 
-fn put_numbers(line: &[u8], out: &mut [u32], at: usize) -> usize
-    requires { ⌜ at + 4 ≤ length (now out) ⌝ }
-    ensures { λ r. ⌜ Stored (now (out .entry)) (now (out .exit)) at r (lineNumbers (now (line .entry))) 4 ⌝ }
+fn put_line_numbers(line: &[u8], out: &mut [u32], at: usize) -> usize
+    requires { ⌜ at + numbersEach ≤ length (now out) ⌝ }
+    ensures { λ r. ⌜ Put numbersEach (now (out .entry)) at (lineNumbers (now (line .entry))) r (now (out .exit)) ⌝ }
 {
     let a = answer_line(line);
-    put_four(out, at, a)
+    put_numbers(out, at, a)
 }
 
 // A line's bytes with its newline; a last line may have none.
@@ -51,26 +55,26 @@ pub struct Batch {
     pub used: usize,
 }
 
-// Answers the lines of s, one after the other, as long as out has room for four numbers.
+// Answers the lines of s, one after the other, as long as out has room for an answer.
 pub fn answer_lines(s: &[u8], out: &mut [u32]) -> Batch
     ensures { λ r. ⌜ BatchRight (now (s .entry)) (now (out .entry)) (now (out .exit)) (r .count) (r .used) ⌝ }
 {
     let mut used = 0;
     let mut put = 0;
     while used < s.len() {
-        if out.len() - put < 4 {
+        if out.len() - put < NUMBERS {
             return Batch {
-                count: put / 4,
+                count: put / NUMBERS,
                 used,
             };
         }
         let rest = &s[used..];
         let n = line_len(rest);
-        put = put_numbers(&rest[..n], out, put);
+        put = put_line_numbers(&rest[..n], out, put);
         used += with_newline(n, rest.len());
     }
     Batch {
-        count: put / 4,
+        count: put / NUMBERS,
         used,
     }
 }

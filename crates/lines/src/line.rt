@@ -13,6 +13,9 @@ use answer::Severity;
 use ascii::is_digit;
 use ascii::wide;
 
+// The bytes that are read of a line: 8 of its head, and one more of its content than a rule may read.
+pub(crate) const LINE_BYTES: usize = 1033;
+
 pub(crate) fn least(a: usize, b: usize) -> usize
     ensures { λ r. ⌜ r ≡ min a b ⌝ }
     ensures { λ r. ⌜ r ≤ a ⌝ }
@@ -52,7 +55,7 @@ pub fn answer_line(line: &[u8]) -> Answer
         return malformed();
     }
     if head_ok(line) {
-        let end = least(line.len(), 1033);
+        let end = least(line.len(), LINE_BYTES);
         return rules::check(&line[0..4], term_of(line), &line[8..end]);
     }
     malformed()

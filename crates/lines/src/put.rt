@@ -1,15 +1,18 @@
 // The text of an answer.
 ghost use Prim.Native.Nat.{_+_, _≤_, _<_};
 ghost use lib.ListN.{length};
-ghost use Rattle.lines.specs.Text.{decimal, field, textOf, lineText};
-ghost use Rattle.lines.specs.Window.{Stored};
+ghost use Rattle.ascii.specs.Area.{Put};
+ghost use Rattle.lines.specs.Text.{numeral, field, answerText, lineText, answerRoom};
 use super::line::answer_line;
 use answer::Answer;
+
+// The bytes that an answer's text takes at most.
+pub(crate) const ANSWER_ROOM: usize = 16;
 
 fn put_number(out: &mut [u8], at: usize, n: u32) -> usize
     requires { ⌜ at + 3 ≤ length (now out) ⌝ }
     requires { ⌜ n < 1000 ⌝ }
-    ensures { λ r. ⌜ Stored (now (out .entry)) (now (out .exit)) at r (decimal n) 3 ⌝ }
+    ensures { λ r. ⌜ Put 3 (now (out .entry)) at (numeral n) r (now (out .exit)) ⌝ }
 {
     if n < 10 {
         out[at] = (48 + n) as u8;
@@ -34,7 +37,7 @@ fn put_number(out: &mut [u8], at: usize, n: u32) -> usize
 fn put_field(out: &mut [u8], at: usize, n: u32, behind: u8) -> usize
     requires { ⌜ at + 4 ≤ length (now out) ⌝ }
     requires { ⌜ n < 1000 ⌝ }
-    ensures { λ r. ⌜ Stored (now (out .entry)) (now (out .exit)) at r (field n behind) 4 ⌝ }
+    ensures { λ r. ⌜ Put 4 (now (out .entry)) at (field n behind) r (now (out .exit)) ⌝ }
 {
     let k = put_number(out, at, n);
     out[k] = behind;
@@ -42,9 +45,9 @@ fn put_field(out: &mut [u8], at: usize, n: u32, behind: u8) -> usize
 }
 
 fn put_answer(out: &mut [u8], at: usize, a: Answer) -> usize
-    requires { ⌜ at + 16 ≤ length (now out) ⌝ }
+    requires { ⌜ at + answerRoom ≤ length (now out) ⌝ }
     requires { ⌜ a .rule < 1000 ⌝ }
-    ensures { λ r. ⌜ Stored (now (out .entry)) (now (out .exit)) at r (textOf a) 16 ⌝ }
+    ensures { λ r. ⌜ Put answerRoom (now (out .entry)) at (answerText a) r (now (out .exit)) ⌝ }
 {
     let verdict = a.verdict;
     let rule = a.rule;
@@ -58,8 +61,8 @@ fn put_answer(out: &mut [u8], at: usize, a: Answer) -> usize
 
 // Stores the answer to a line from `at` on, and says where its text ends.
 pub(crate) fn put_line(line: &[u8], out: &mut [u8], at: usize) -> usize
-    requires { ⌜ at + 16 ≤ length (now out) ⌝ }
-    ensures { λ r. ⌜ Stored (now (out .entry)) (now (out .exit)) at r (lineText (now (line .entry))) 16 ⌝ }
+    requires { ⌜ at + answerRoom ≤ length (now out) ⌝ }
+    ensures { λ r. ⌜ Put answerRoom (now (out .entry)) at (lineText (now (line .entry))) r (now (out .exit)) ⌝ }
 {
     let a = answer_line(line);
     put_answer(out, at, a)

@@ -4,8 +4,11 @@ ghost use mathlib.Core.Bool.{false};
 ghost use mathlib.Core.List.{_++_};
 ghost use Prim.Native.Nat.{_+_, _≤_};
 ghost use lib.ListN.{length, take, drop};
-ghost use Rattle.lines.specs.Window.{upto, usedOf, writtenOf, clipped, lastOf, Laid, StepRight};
-use super::line::least;
+ghost use Rattle.ascii.specs.Area.{Put};
+ghost use Rattle.lines.specs.Window.{usedOf, writtenOf, clipped, lastOf};
+ghost use Rattle.lines.specs.Inner.{upto, StepRight};
+use super::line::LINE_BYTES;
+use super::put::ANSWER_ROOM;
 use super::put::put_line;
 
 // Whether one of the eight bytes from i on is a newline: eight tests without a branch.
@@ -55,16 +58,16 @@ struct Fed {
     put: usize,
 }
 
-// Answers the whole lines of s, one after the other, as long as out has 16 bytes left.
+// Answers the whole lines of s, one after the other, as long as out has room for an answer.
 fn feed(s: &[u8], out: &mut [u8]) -> Fed
     ensures used { λ r. ⌜ r .used ≡ usedOf (length (now (out .entry))) (now (s .entry)) ⌝ }
     ensures within { λ r. ⌜ r .used ≤ length (now (s .entry)) ⌝ }
-    ensures laid { λ r. ⌜ Laid (now (out .entry)) (now (out .exit)) (r .put) (writtenOf (length (now (out .entry))) (now (s .entry))) ⌝ }
+    ensures laid { λ r. ⌜ Put (length (now (out .entry))) (now (out .entry)) 0 (writtenOf (length (now (out .entry))) (now (s .entry))) (r .put) (now (out .exit)) ⌝ }
 {
     let mut used = 0;
     let mut put = 0;
     while used < s.len() {
-        if out.len() - put < 16 {
+        if out.len() - put < ANSWER_ROOM {
             return Fed { used, put };
         }
         let rest = &s[used..];
@@ -78,18 +81,18 @@ fn feed(s: &[u8], out: &mut [u8]) -> Fed
     Fed { used, put }
 }
 
-// How much of a rest is kept: of a line that no newline ends yet, the 1,033 bytes that are read.
+// How much of a rest is kept: of a line that no newline ends yet, the bytes that are read.
 fn keep_len(rest: &[u8]) -> usize
     ensures exact { λ r. ⌜ r ≡ length (clipped (now (rest .entry))) ⌝ }
     ensures within { λ r. ⌜ r ≤ length (now (rest .entry)) ⌝ }
     ensures front { λ r. ⌜ take r (now (rest .entry)) ≡ clipped (now (rest .entry)) ⌝ }
 {
     let n = rest.len();
-    if n <= 1033 {
+    if n <= LINE_BYTES {
         return n;
     }
     if line_len(rest) == n {
-        return 1033;
+        return LINE_BYTES;
     }
     n
 }
@@ -97,7 +100,7 @@ fn keep_len(rest: &[u8]) -> usize
 // Moves the n bytes from `from` on to the front.
 fn shift(buf: &mut [u8], from: usize, n: usize)
     requires { ⌜ from + n ≤ length (now buf) ⌝ }
-    ensures { λ _. ⌜ now (buf .exit) ≡ take n (drop from (now (buf .entry))) ++ drop n (now (buf .entry)) ⌝ }
+    ensures { λ _. ⌜ Put n (now (buf .entry)) 0 (take n (drop from (now (buf .entry)))) n (now (buf .exit)) ⌝ }
 {
     let mut i = 0;
     while i < n {
@@ -106,33 +109,32 @@ fn shift(buf: &mut [u8], from: usize, n: usize)
     }
 }
 
-pub struct Stepped {
+pub(crate) struct Stepped {
     pub kept: usize,
     pub put: usize,
 }
 
-// One turn over a window: buf[..n] is input that is not answered yet. Stores the answers to its whole lines at the start of out,
-// and moves what is kept of the rest to the start of buf.
-pub fn step(buf: &mut [u8], n: usize, out: &mut [u8]) -> Stepped
+// Stores the answers to the whole lines of buf[..n] at the start of out, and moves what is kept of the rest to the start of buf.
+pub(crate) fn step(buf: &mut [u8], n: usize, out: &mut [u8]) -> Stepped
+    requires { ⌜ n ≤ length (now buf) ⌝ }
     ensures { λ r. ⌜ StepRight (take n (now (buf .entry))) (now (buf .entry)) (now (buf .exit)) (now (out .entry)) (now (out .exit)) (r .kept) (r .put) ⌝ }
 {
-    let m = least(buf.len(), n);
-    let fed = feed(&buf[..m], out);
+    let fed = feed(&buf[..n], out);
     let used = fed.used;
     let put = fed.put;
-    let keep = keep_len(&buf[used..m]);
+    let keep = keep_len(&buf[used..n]);
     shift(buf, used, keep);
     Stepped { kept: keep, put }
 }
 
 // The answer to a last line that no newline ends, stored at the start of out.
-pub fn last(s: &[u8], out: &mut [u8]) -> usize
-    ensures { λ r. ⌜ Laid (now (out .entry)) (now (out .exit)) r (lastOf (length (now (out .entry))) (now (s .entry))) ⌝ }
+pub(crate) fn last(s: &[u8], out: &mut [u8]) -> usize
+    ensures { λ r. ⌜ Put (length (now (out .entry))) (now (out .entry)) 0 (lastOf (length (now (out .entry))) (now (s .entry))) r (now (out .exit)) ⌝ }
 {
     if s.len() == 0 {
         return 0;
     }
-    if out.len() < 16 {
+    if out.len() < ANSWER_ROOM {
         return 0;
     }
     put_line(s, out, 0)

@@ -1,16 +1,16 @@
 -- `checklines::turn` stays within its buffers, and leaves room to read more.
+use mathlib.Core.Path.{sym}
 use native.Mathlib.Omega.{arith}
-use lib.ListN.{length-take}
+use lib.Seq.{length-take-le}
 use borrow.Author.Needs.{needs}
 use Rattle.checklines.proofs.turn.Statement.{statement}
 use Rattle.checklines.proofs.turn.Tie as tie
 use Rattle.checklines.proofs.turn.Reads as reads
 use Rattle.checklines.proofs.turn.Lts as lts
+use Rattle.checklines.proofs.write.Reads as write-reads
 use Rattle.io.proofs.count.Reads as count-reads
 use Rattle.libc.proofs.read.Reads as read-reads
-use Rattle.lines.proofs.last.Reads as last-reads
-use Rattle.lines.proofs.step.Reads as step-reads
-use Rattle.checklines.proofs.write.Reads as write-reads
+use Rattle.lines.proofs.turn.Reads as turn-reads
 use Rattle.os.proofs.fail.Reads as fail-reads
 
 sub-read : tie.Need-sub-read
@@ -49,26 +49,14 @@ part-count-end c = search needs
 count-requires : tie.Need-count-requires
 count-requires c κs = search needs
 
-add-step : tie.Need-add-step
-add-step c = search needs
-
-step-requires : tie.Need-step-requires
-step-requires c κs = search needs
-
-slice-reshare-prefix-last : tie.Need-slice-reshare-prefix-last
-slice-reshare-prefix-last c = omega (arith, c .before .before .before .before .before .before .step .ensures .held .part, length-take (c .before .before .before .before .before .before .step .result .kept) (c .before .before .before .before .before .before .step .last .0))
-
-slice-aggregate-last : tie.Need-slice-aggregate-last
-slice-aggregate-last c = search needs
-
-last-requires : tie.Need-last-requires
-last-requires c κs = search needs
+turn-requires : tie.Need-turn-requires
+turn-requires c κs = search needs
 
 slice-reshare-prefix-write : tie.Need-slice-reshare-prefix-write
 slice-reshare-prefix-write c = search needs
 
 slice-aggregate-write : tie.Need-slice-aggregate-write
-slice-aggregate-write c = search needs
+slice-aggregate-write c = let done = c .before .before .before .before .before .turn in sym (length-take-le (done .result .put) (done .last .1 .1 .1 .0) (omega (arith, done .ensures .writes .few, done .ensures .writes .ends)))
 
 write-requires : tie.Need-write-requires
 write-requires c κs = search needs
@@ -80,25 +68,7 @@ same-length-3 : tie.Need-same-length-3
 same-length-3 c = search needs
 
 returns-2 : tie.Need-returns-2
-returns-2 c = omega (arith, c .before .before .before .before .before .before .before .before .before .before .before .before .before .step .ensures .moves (omega (arith, c .before .before .before .before .before .before .before .before .before .before .before .before .before .step .ensures .held .size)) (omega (arith, c .before .before .before .before .before .before .before .before .before .before .before .before .before .step .ensures .written .size)), c .before .before .before .before .before .before .before .before .before .before .before .before .before .step .ensures .held .size)
-
-slice-reshare-prefix-write-2 : tie.Need-slice-reshare-prefix-write-2
-slice-reshare-prefix-write-2 c = search needs
-
-slice-aggregate-write-2 : tie.Need-slice-aggregate-write-2
-slice-aggregate-write-2 c = search needs
-
-write-requires-2 : tie.Need-write-requires-2
-write-requires-2 c κs = search needs
-
-same-length-4 : tie.Need-same-length-4
-same-length-4 c = search needs
-
-same-length-5 : tie.Need-same-length-5
-same-length-5 c = search needs
-
-returns-3 : tie.Need-returns-3
-returns-3 c = omega (arith, c .before .before .before .before .before .before .before .step .ensures .moves (omega (arith, c .before .before .before .before .before .before .before .step .ensures .held .size)) (omega (arith, c .before .before .before .before .before .before .before .step .ensures .written .size)), c .before .before .before .before .before .before .before .step .ensures .held .size)
+returns-2 c = omega (arith, c .before .before .before .before .before .before .before .turn .ensures .moves (omega arith) (omega arith))
 
 pub turn-spec : {M : Type 1} → statement M
 turn-spec =
@@ -116,20 +86,10 @@ turn-spec =
     part-count-start
     part-count-end
     count-requires
-    add-step
-    step-requires
-    slice-reshare-prefix-last
-    slice-aggregate-last
-    last-requires
+    turn-requires
     slice-reshare-prefix-write
     slice-aggregate-write
     write-requires
     same-length-2
     same-length-3
-    returns-2
-    slice-reshare-prefix-write-2
-    slice-aggregate-write-2
-    write-requires-2
-    same-length-4
-    same-length-5
-    returns-3)
+    returns-2)

@@ -1,6 +1,8 @@
--- `lines::put::put_answer` stores the four numbers of an answer.
+-- `lines::put::put_answer` stores the text of an answer.
 use native.Mathlib.Omega.{arith}
-use Rattle.lines.proofs.Texts.{verdict-small, severity-small, reason-small, put-fields}
+use Rattle.answer.proofs.Laws.{reason-small}
+use Rattle.lines.proofs.Small.{verdict-small, severity-small}
+use Rattle.lines.proofs.Texts.{put-room, put-fields}
 use borrow.Author.Needs.{needs}
 use Rattle.lines.proofs.put.put_answer.Statement.{statement}
 use Rattle.lines.proofs.put.put_answer.Tie as tie
@@ -18,26 +20,25 @@ put-field-requires : tie.Need-put-field-requires
 put-field-requires c κs = (omega arith, omega (arith, c .number .ensures, verdict-small (c .before .before .before .args .a .verdict)))
 
 put-field-requires-2 : tie.Need-put-field-requires-2
-put-field-requires-2 c κs = search needs
+put-field-requires-2 c κs = (put-room 4 (c .before .before .before .put-field .ensures) (omega arith), omega arith)
 
 number-requires-2 : tie.Need-number-requires-2
 number-requires-2 c κs = search needs
 
 put-field-requires-3 : tie.Need-put-field-requires-3
-put-field-requires-3 c κs = (omega (arith, c .before .before .before .before .put-field2 .ensures .short, c .before .before .before .before .put-field2 .ensures .size, c .before .before .before .before .before .before .before .before .put-field .ensures .short, c .before .before .before .before .before .before .before .before .put-field .ensures .size), omega (arith, c .number2 .ensures, severity-small (c .before .before .before .before .before .before .before .before .before .before .before .before .args .a .severity)))
+put-field-requires-3 c κs = (put-room 4 (c .before .before .before .before .put-field2 .ensures) (put-room 8 (c .before .before .before .before .before .before .before .before .put-field .ensures) (omega arith)), omega (arith, c .number2 .ensures, severity-small (c .before .before .before .before .before .before .before .before .before .before .before .before .args .a .severity)))
 
 number-requires-3 : tie.Need-number-requires-3
 number-requires-3 c κs = search needs
 
 put-field-requires-4 : tie.Need-put-field-requires-4
-put-field-requires-4 c κs = (omega (arith, c .before .before .before .before .put-field3 .ensures .short, c .before .before .before .before .put-field3 .ensures .size, c .before .before .before .before .before .before .before .before .before .put-field2 .ensures .short, c .before .before .before .before .before .before .before .before .before .put-field2 .ensures .size, c .before .before .before .before .before .before .before .before .before .before .before .before .before .put-field .ensures .short, c .before .before .before .before .before .before .before .before .before .before .before .before .before .put-field .ensures .size), omega (arith, c .number3 .ensures, reason-small (c .before .before .before .before .before .before .before .before .before .before .before .before .before .before .before .before .before .args .a .reason), severity-small (c .before .before .before .before .before .before .before .before .before .before .before .before .before .before .before .before .before .args .a .severity)))
+put-field-requires-4 c κs = (put-room 4 (c .before .before .before .before .put-field3 .ensures) (put-room 8 (c .before .before .before .before .before .before .before .before .before .put-field2 .ensures) (put-room 12 (c .before .before .before .before .before .before .before .before .before .before .before .before .before .put-field .ensures) (omega arith))), omega (arith, c .number3 .ensures, reason-small (c .before .before .before .before .before .before .before .before .before .before .before .before .before .before .before .before .before .args .a .reason)))
 
 same-length : tie.Need-same-length
 same-length c = search needs
 
 returns : tie.Need-returns
-returns c = put-fields (c .before .before .before .before .before .before .before .before .before .before .before .before .before .before .before .before .before .before .before .before .args .a) (c .before .before .before .before .before .before .before .before .before .before .before .before .before .before .before .before .before .before .before .before .args .out .now) (c .before .before .before .before .before .before .before .before .before .before .before .before .before .before .before .before .put-field .last .0) (c .before .before .before .before .before .before .before .before .before .before .before .before .put-field2 .last .0) (c .before .before .before .before .before .before .before .put-field3 .last .0) (c .before .before .put-field4 .last .0) (c .before .before .before .before .before .before .before .before .before .before .before .before .before .before .before .before .before .before .before .before .args .at) (c .before .before .before .before .before .before .before .before .before .before .before .before .before .before .before .before .put-field .result) (c .before .before .before .before .before .before .before .before .before .before .before .before .put-field2 .result) (c .before .before .before .before .before .before .before .put-field3 .result) (c .before .before .put-field4 .result)
-    (c .before .before .before .before .before .before .before .before .before .before .before .before .before .before .before .before .before .number .result) (c .before .before .before .before .before .before .before .before .number2 .result) (c .before .before .before .number3 .result) (c .before .before .before .before .before .before .before .before .before .before .before .before .before .before .before .before .before .number .ensures) (c .before .before .before .before .before .before .before .before .number2 .ensures) (c .before .before .before .number3 .ensures)
+returns c = put-fields (c .before .before .before .before .before .before .before .before .before .before .before .before .before .before .before .before .before .before .before .before .args .a) (c .before .before .before .before .before .before .before .before .before .before .before .before .before .before .before .before .before .number .result) (c .before .before .before .before .before .before .before .before .number2 .result) (c .before .before .before .number3 .result) (omega arith) (c .before .before .before .before .before .before .before .before .before .before .before .before .before .before .before .before .before .number .ensures) (c .before .before .before .before .before .before .before .before .number2 .ensures) (c .before .before .before .number3 .ensures)
     (c .before .before .before .before .before .before .before .before .before .before .before .before .before .before .before .before .put-field .ensures) (c .before .before .before .before .before .before .before .before .before .before .before .before .put-field2 .ensures) (c .before .before .before .before .before .before .before .put-field3 .ensures) (c .before .before .put-field4 .ensures)
 
 pub put-answer-spec : {M : Type 1} → statement M

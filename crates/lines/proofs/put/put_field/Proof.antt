@@ -1,4 +1,5 @@
 -- `lines::put::put_field` stores a number and the byte behind it.
+use native.Mathlib.Omega.{arith}
 use Rattle.lines.proofs.Texts.{put-behind}
 use borrow.Author.Needs.{needs}
 use Rattle.lines.proofs.put.put_field.Statement.{statement}
@@ -20,7 +21,7 @@ same-length : tie.Need-same-length
 same-length c = search needs
 
 returns : tie.Need-returns
-returns c = put-behind (c .before .before .before .before .before .args .out .now) (c .before .before .put-number .last .0) (c .before .before .before .before .before .args .at) (c .before .before .put-number .result) (c .before .before .before .before .before .args .n) (c .before .before .before .before .before .args .behind) (c .before .before .put-number .ensures)
+returns c = put-behind (c .before .before .before .before .before .args .n) (c .before .before .before .before .before .args .behind) (omega arith) (c .before .before .put-number .ensures)
 
 pub put-field-spec : {M : Type 1} → statement M
 put-field-spec =

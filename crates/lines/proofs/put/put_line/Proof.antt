@@ -1,6 +1,7 @@
 -- `lines::put::put_line` stores the answer to a line.
 use native.Mathlib.Omega.{arith}
-use Rattle.lines.proofs.Texts.{rule-small, put-text}
+use Rattle.lines.proofs.Small.{rule-small}
+use Rattle.lines.specs.Text.{lineText}
 use borrow.Author.Needs.{needs}
 use Rattle.lines.proofs.put.put_line.Statement.{statement}
 use Rattle.lines.proofs.put.put_line.Tie as tie
@@ -19,7 +20,8 @@ same-length : tie.Need-same-length
 same-length c = search needs
 
 returns : tie.Need-returns
-returns c = put-text (c .before .before .before .before .before .before .before .args .line .now) (c .before .before .before .before .before .before .before .args .out .now) (c .before .before .put-answer .last .0) (c .before .before .before .before .before .before .before .args .at) (c .before .before .put-answer .result) (c .before .before .before .before .answer-line .result) (c .before .before .before .before .answer-line .ensures) (c .before .before .put-answer .ensures)
+unfolding lineText
+returns c = rw (← c .before .before .before .before .answer-line .ensures) (c .before .before .put-answer .ensures)
 
 pub put-line-spec : {M : Type 1} → statement M
 put-line-spec = tie.close (tie.spec answer-line-requires put-answer-requires same-length returns)

@@ -24,7 +24,7 @@ same-length : tie.Need-same-length
 same-length c = search needs
 
 returns : tie.Need-returns
-returns c = put-one (c .before .args .out .now) (c .before .args .at) (c .before .args .n) (c .if1 .taken)
+returns c = put-one (c .before .args .out .now) (c .before .args .at) (c .before .args .n) (omega arith) (c .if1 .taken)
 
 add-low : tie.Need-add-low
 add-low c = search needs
@@ -54,7 +54,7 @@ same-length-2 : tie.Need-same-length-2
 same-length-2 c = search needs
 
 returns-2 : tie.Need-returns-2
-returns-2 c = put-two (c .before .before .args .out .now) (c .before .before .args .at) (c .before .before .args .n) (c .before .if1 .left) (c .if2 .taken)
+returns-2 c = put-two (c .before .before .args .out .now) (c .before .before .args .at) (c .before .before .args .n) (omega arith) (c .before .if1 .left) (c .if2 .taken)
 
 add-m : tie.Need-add-m
 add-m c = search needs
@@ -87,7 +87,7 @@ same-length-3 : tie.Need-same-length-3
 same-length-3 c = search needs
 
 returns-3 : tie.Need-returns-3
-returns-3 c = put-three (c .before .before .args .out .now) (c .before .before .args .at) (c .before .before .args .n) (c .before .if1 .left) (c .if2 .left) (omega arith)
+returns-3 c = put-three (c .before .before .args .out .now) (c .before .before .args .at) (c .before .before .args .n) (omega arith) (c .before .if1 .left) (c .if2 .left) (omega arith)
 
 pub put-number-spec : {M : Type 1} → statement M
 put-number-spec =

@@ -5,7 +5,7 @@ use native.Mathlib.Omega.{arith}
 use Prim.Native.Nat.{_≤_, _+_, _-_}
 use mathlib.Core.Path.{_≡_}
 use lib.ListN.{length, drop}
-use Rattle.lines.specs.Window.{upto}
+use Rattle.lines.specs.Inner.{upto}
 use Rattle.lines.proofs.Splits.{upto-here, upto-past, upto-end}
 use Rattle.lines.proofs.window.line_len.Statement.{statement}
 use Rattle.lines.proofs.window.line_len.Tie as tie

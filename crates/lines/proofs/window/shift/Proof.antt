@@ -4,7 +4,7 @@ use mathlib.Core.Path.{_≡_, refl}
 use mathlib.Core.List.{_++_}
 use native.Mathlib.Omega.{arith}
 use lib.ListN.{length, take, drop, length-set}
-use Rattle.lines.proofs.Windows.{shift-step}
+use Rattle.lines.proofs.Windows.{shift-step, shifted}
 use Rattle.lines.proofs.window.shift.Statement.{statement}
 use Rattle.lines.proofs.window.shift.Tie as tie
 use Rattle.lines.proofs.window.shift.Reads as reads
@@ -42,7 +42,8 @@ same-length : tie.Need-same-length Inv-loop μ-loop
 same-length c = c .before .loop .inv .2
 
 returns : tie.Need-returns Inv-loop μ-loop
-returns c = let e : c .before .loop .i ≡ c .before .before .args .n = omega arith in rw e at (c .before .loop .inv .1)
+returns c = let e : c .before .loop .i ≡ c .before .before .args .n = omega arith in
+    shifted (c .before .before .args .buf .now) (c .before .loop .buf) (c .before .before .args .from) (c .before .before .args .n) (c .before .before .pre) (rw e at (c .before .loop .inv .1))
 
 pub shift-spec : {M : Type 1} → statement M
 shift-spec =

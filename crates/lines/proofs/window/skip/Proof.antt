@@ -4,7 +4,7 @@ use Prim.Native.Nat.{_+_, _-_, _≤_}
 use native.Mathlib.Nat.{zero-add}
 use native.Mathlib.Omega.{arith}
 use lib.ListN.{length, drop}
-use Rattle.lines.specs.Window.{upto}
+use Rattle.lines.specs.Inner.{upto}
 use Rattle.lines.proofs.window.skip.Statement.{statement}
 use Rattle.lines.proofs.window.skip.Tie as tie
 use Rattle.lines.proofs.window.skip.Reads as reads
