@@ -17,7 +17,7 @@ use Rattle.ascii.proofs.Class.{digit-bounds}
 use Rattle.answer.specs.declared.severity.Severity.the-variants.{NoSeverity}
 use Rattle.answer.specs.declared.reason.Reason.the-variants.{Line}
 use Rattle.answer.specs.Answers.{refused}
-use Rattle.rules.specs.Check.{checkOf}
+use Rattle.checks.specs.Check.{checkOf}
 use Rattle.lines.specs.Line.{space, headOk, termOf, lineContent, lineBytes, answerOf}
 
 -- ---- the head

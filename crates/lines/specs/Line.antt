@@ -11,7 +11,7 @@ use Rattle.answer.specs.declared.record.Answer.{Answer}
 use Rattle.answer.specs.declared.reason.Reason.the-variants.{Line}
 use Rattle.answer.specs.declared.severity.Severity.the-variants.{NoSeverity}
 use Rattle.answer.specs.Answers.{refused}
-use Rattle.rules.specs.Check.{checkOf}
+use Rattle.checks.specs.Check.{checkOf}
 
 abbrev pub space : ℕ
 space = code " "

@@ -56,7 +56,7 @@ pub fn answer_line(line: &[u8]) -> Answer
     }
     if head_ok(line) {
         let end = least(line.len(), LINE_BYTES);
-        return rules::check(&line[0..4], term_of(line), &line[8..end]);
+        return checks::check(&line[0..4], term_of(line), &line[8..end]);
     }
     malformed()
 }

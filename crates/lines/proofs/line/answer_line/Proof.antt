@@ -12,7 +12,7 @@ use Rattle.lines.proofs.line.head_ok.Reads as head-ok-reads
 use Rattle.lines.proofs.line.least.Reads as least-reads
 use Rattle.lines.proofs.line.malformed.Reads as malformed-reads
 use Rattle.lines.proofs.line.term_of.Reads as term-of-reads
-use Rattle.rules.proofs.check.Reads as check-reads
+use Rattle.checks.proofs.check.Reads as check-reads
 
 malformed-requires : tie.Need-malformed-requires
 malformed-requires c κs = search needs
