@@ -11,8 +11,7 @@ use Rattle.ascii.proofs.Tests.{and-true}
 use Rattle.answer.specs.declared.reason.Reason.{Reason}
 use Rattle.answer.specs.declared.reason.Reason.the-variants.{NoReason, Long, Utf8, Form, Check, Zero, NoFigure, Scheme, Room, Good, Term, Line}
 use Rattle.answer.specs.Numbers.{reasonNumber}
-use Rattle.answer.specs.declared.severity.Severity.{Severity}
-use Rattle.answer.specs.Answers.{none, first, judged, accepted, refused}
+use Rattle.answer.specs.Answers.{none, first}
 
 -- as the code tests it: the reason's number is 0
 module _ {k : ℕ} (r : Reason) (e : k ≡ reasonNumber r) where
@@ -32,14 +31,6 @@ module _ (r : Reason) where
   pub first-given : (s : Reason) → none r ≡ false → first r s ≡ r
   unfolding first pick
   first-given s e = rw e
-
-  pub judged-none : (n : ℕ) (s : Severity) → none r ≡ true → judged n s r ≡ accepted n s
-  unfolding judged pick
-  judged-none n s e = rw e
-
-  pub judged-given : (n : ℕ) (s : Severity) → none r ≡ false → judged n s r ≡ refused n s r
-  unfolding judged pick
-  judged-given n s e = rw e
 
 -- ---- what is computed of every reason
 

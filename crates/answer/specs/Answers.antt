@@ -37,7 +37,3 @@ first r s = pick (none r) s r
 unfoldable pub answerNumbers : Answer → List ℕ
 answerNumbers a =
     verdictNumber (a .verdict) ∷ a .rule ∷ severityNumber (a .severity) ∷ reasonNumber (a .reason) ∷ []
-
--- accepted where no reason is given, else refused by it
-unfoldable pub judged : ℕ → Severity → Reason → Answer
-judged n s r = pick (none r) (accepted n s) (refused n s r)

@@ -7,7 +7,6 @@ mod verdict;
 pub use reason::Reason;
 pub use record::Answer;
 pub use record::accepted;
-pub use record::judged;
 pub use record::no_rule;
 pub use record::refused;
 pub use record::unread;

@@ -1,6 +1,6 @@
 // The record, and the four kinds of answer there are.
 ghost use mathlib.Core.Path.{_≡_};
-ghost use Rattle.answer.specs.Answers.{noRule, accepted, refused, unread, judged};
+ghost use Rattle.answer.specs.Answers.{noRule, accepted, refused, unread};
 use super::reason::Reason;
 use super::severity::Severity;
 use super::verdict::Verdict;
@@ -54,14 +54,4 @@ pub fn refused(rule: u32, severity: Severity, reason: Reason) -> Answer
         severity,
         reason,
     }
-}
-
-// Accepted where no reason is given, else refused by it.
-pub fn judged(rule: u32, severity: Severity, reason: Reason) -> Answer
-    ensures { λ r. ⌜ r ≡ judged rule severity reason ⌝ }
-{
-    if reason.number() == 0 {
-        return accepted(rule, severity);
-    }
-    refused(rule, severity, reason)
 }
