@@ -15,13 +15,13 @@ use Rattle.answer.specs.declared.reason.Reason.{Reason}
 use Rattle.answer.specs.declared.reason.Reason.the-variants.{Long, Utf8}
 use Rattle.text.specs.declared.reading.Reading.{Reading}
 use Rattle.text.specs.declared.reading.Reading.the-variants.{AsItStands, Normalised, Stripped}
-use Rattle.text.specs.Content.{Piece, Cell, Content, malformed, content, contentFrom, contentOf, cells, cellsOf, bytesOf, codes}
+use Rattle.text.specs.Content.{Piece, Cell, Content, malformed, content, contentFrom, contentOf, cells, cellsOf, codes}
 use Rattle.text.specs.Words.{words, spaceAfter, spaced, closed, normal, stripped}
 use Rattle.text.specs.Answer.{whyRefused, readableOf, padded, kept, refusal, onContent, answer, normalText, strippedText, textOf, textBy}
-use Rattle.text.specs.Neat.{All, Dark, Neat, itself}
+use Rattle.text.specs.Neat.{All, Dark, Neat, bytesOf}
 use Rattle.text.proofs.Rows.{row-1}
 use Rattle.text.proofs.Padded.{length-padded}
-use Rattle.text.proofs.Points.{texts, texts-cells, length-cells}
+use Rattle.text.proofs.Points.{texts, texts-cells}
 use Rattle.text.proofs.Sound.{Sound, placed, reread, read}
 use Rattle.text.proofs.Walk.{answer-short}
 use Rattle.text.proofs.Words.{all-append, all-words, all-spaced, all-closed, words-word, closed-dark, spaced-dark, Solid, solid, shorter, closed-shorter, neat-spaced, codes-placed}
@@ -223,13 +223,12 @@ cells-placed [] o = refl
 cells-placed (p ∷ ps) o =
     ap (λ (l : List Cell). cells o (p .bytes) ++ l) (cells-placed ps (o + length (p .bytes))) ∙ sym (cells-append o (p .bytes) (bytesOf ps))
 
-pub unchanged : (s : List ℕ) (t : Taken s) → All Dark (t .points) → normalText s ≡ itself s
-unfolding normalText normal kept
+pub unchanged : (s : List ℕ) (t : Taken s) → All Dark (t .points) → normalText s ≡ kept (cells 0 s)
+unfolding normalText normal
 unchanged s t d =
     let r = read s (t .points) (t .reads) in
     let e : tidy (t .points) ≡ placed 0 (t .points) = spaced-dark (t .points) d ∙ sym (r .places) in
-    let f : cellsOf (tidy (t .points)) ≡ cells 0 s = ap cellsOf e ∙ cells-placed (t .points) 0 ∙ ap (cells 0) (r .bytes) in
-    answer-taken normal s t ∙ rw (f, length-cells, texts-cells)
+    answer-taken normal s t ∙ ap kept (ap cellsOf e ∙ cells-placed (t .points) 0 ∙ ap (cells 0) (r .bytes))
 
 -- ---- stripping
 
