@@ -47,6 +47,7 @@ pub codice-fits : (s : List ℕ) (ps : List Piece) → contentOf s ≡ content p
 unfolding codiceFault codiceOf isCodice
 codice-fits s ps e = rw e (by-count ps (eqb (length ps) 16) (eqb (length ps) 11) refl)
 
+-- a text that is not well-formed has no number of points that fits
 pub codice-malformed : (s : List ℕ) → contentOf s ≡ malformed → codiceFault s ≡ Length
 unfolding codiceFault codiceOf
 codice-malformed s e = rw e

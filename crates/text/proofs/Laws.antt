@@ -13,13 +13,15 @@ use lib.Seq.{take-at}
 use Rattle.ascii.specs.Pick.{pick}
 use Rattle.answer.specs.declared.reason.Reason.{Reason}
 use Rattle.answer.specs.declared.reason.Reason.the-variants.{Long, Utf8}
-use Rattle.text.specs.Content.{Piece, Cell, Content, malformed, content, contentFrom, contentOf, cells, cellsOf, bytesOf, codes}
+use Rattle.text.specs.declared.reading.Reading.{Reading}
+use Rattle.text.specs.declared.reading.Reading.the-variants.{AsItStands, Normalised, Stripped}
+use Rattle.text.specs.Content.{Piece, Cell, Content, malformed, content, contentFrom, contentOf, cells, cellsOf, codes}
 use Rattle.text.specs.Words.{words, spaceAfter, spaced, closed, normal, stripped}
-use Rattle.text.specs.Answer.{whyRefused, readableOf, padded, kept, refusal, onContent, answer, normalText, strippedText, textOf}
-use Rattle.text.specs.Neat.{All, Dark, Neat, itself}
+use Rattle.text.specs.Answer.{whyRefused, readableOf, padded, kept, refusal, onContent, answer, normalText, strippedText, textOf, textBy}
+use Rattle.text.specs.Neat.{All, Dark, Neat, bytesOf}
 use Rattle.text.proofs.Rows.{row-1}
 use Rattle.text.proofs.Padded.{length-padded}
-use Rattle.text.proofs.Points.{texts, texts-cells, length-cells}
+use Rattle.text.proofs.Points.{texts, texts-cells}
 use Rattle.text.proofs.Sound.{Sound, placed, reread, read}
 use Rattle.text.proofs.Walk.{answer-short}
 use Rattle.text.proofs.Words.{all-append, all-words, all-spaced, all-closed, words-word, closed-dark, spaced-dark, Solid, solid, shorter, closed-shorter, neat-spaced, codes-placed}
@@ -209,19 +211,6 @@ pub text-area : (s : List ℕ) → length (normalText s .bytes) ≡ 1024
 unfolding normalText
 text-area s = area-whole normal tidy picks-normal s
 
--- it is never longer
-pub never-longer : (s : List ℕ) → length (textOf (normalText s)) ≤ length s
-unfolding normalText
-never-longer s = no-longer normal tidy picks-normal s
-
--- what holds of each byte of a content and of the space holds of each byte of the text
-pub every : (Q : ℕ → Type 0) → Q 0x20 → (s : List ℕ) → All Q s → All Q (textOf (normalText s))
-unfolding normalText
-every Q q s h = every-byte normal tidy picks-normal Q q s h
-
-pub below-256 : (s : List ℕ) → All (λ (b : ℕ). b < 256) s → All (λ (b : ℕ). b < 256) (textOf (normalText s))
-below-256 s h = every (λ (b : ℕ). b < 256) (omega arith) s h
-
 -- a content with no white point is its own normalised text
 cells-append : (o : ℕ) (a b : List ℕ) → cells o (a ++ b) ≡ cells o a ++ cells (o + length a) b
 unfolding cells
@@ -234,15 +223,12 @@ cells-placed [] o = refl
 cells-placed (p ∷ ps) o =
     ap (λ (l : List Cell). cells o (p .bytes) ++ l) (cells-placed ps (o + length (p .bytes))) ∙ sym (cells-append o (p .bytes) (bytesOf ps))
 
-as-is : (s : List ℕ) (t : Taken s) → tidy (t .points) ≡ t .points → normalText s ≡ itself s
-unfolding normalText normal kept
-as-is s t d =
+pub unchanged : (s : List ℕ) (t : Taken s) → All Dark (t .points) → normalText s ≡ kept (cells 0 s)
+unfolding normalText normal
+unchanged s t d =
     let r = read s (t .points) (t .reads) in
-    let f : cellsOf (tidy (t .points)) ≡ cells 0 s = ap cellsOf (d ∙ sym (r .places)) ∙ cells-placed (t .points) 0 ∙ ap (cells 0) (r .bytes) in
-    answer-taken normal s t ∙ rw (f, length-cells, texts-cells)
-
-pub unchanged : (s : List ℕ) (t : Taken s) → All Dark (t .points) → normalText s ≡ itself s
-unchanged s t d = as-is s t (spaced-dark (t .points) d)
+    let e : tidy (t .points) ≡ placed 0 (t .points) = spaced-dark (t .points) d ∙ sym (r .places) in
+    answer-taken normal s t ∙ ap kept (ap cellsOf e ∙ cells-placed (t .points) 0 ∙ ap (cells 0) (r .bytes))
 
 -- ---- stripping
 
@@ -258,6 +244,7 @@ picks-stripped =
       short = λ ps h. closed-shorter ps;
     }
 
+-- the text is the words with nothing between them
 pub strip-words : (s : List ℕ) (t : Taken s) → textOf (strippedText s) ≡ bytesOf (closed (words (t .points)))
 unfolding strippedText
 strip-words s t = text-taken stripped dense picks-stripped s t
@@ -279,6 +266,7 @@ strip-dark s =
     ))
     (taken stripped s)
 
+-- its length is the answer's, which fits the area
 pub strip-length : (s : List ℕ) → strippedText s .len ≡ length (textOf (strippedText s))
 unfolding strippedText
 strip-length s = len-text stripped dense picks-stripped s
@@ -291,10 +279,21 @@ pub strip-area : (s : List ℕ) → length (strippedText s .bytes) ≡ 1024
 unfolding strippedText
 strip-area s = area-whole stripped dense picks-stripped s
 
-pub strip-never-longer : (s : List ℕ) → length (textOf (strippedText s)) ≤ length s
-unfolding strippedText
-strip-never-longer s = no-longer stripped dense picks-stripped s
+-- ---- every reading
 
-pub strip-every : (Q : ℕ → Type 0) → Q 0x20 → (s : List ℕ) → All Q s → All Q (textOf (strippedText s))
-unfolding strippedText
-strip-every Q q s h = every-byte stripped dense picks-stripped Q q s h
+-- a text is never longer than its content
+pub never-longer : (r : Reading) (s : List ℕ) → length (textBy r s) ≤ length s
+unfolding normalText strippedText
+never-longer AsItStands s = omega arith
+never-longer Normalised s = no-longer normal tidy picks-normal s
+never-longer Stripped s = no-longer stripped dense picks-stripped s
+
+-- what holds of each byte of a content and of the space holds of each byte of the text
+pub every : (Q : ℕ → Type 0) → Q 0x20 → (r : Reading) (s : List ℕ) → All Q s → All Q (textBy r s)
+unfolding normalText strippedText
+every Q q AsItStands s h = h
+every Q q Normalised s h = every-byte normal tidy picks-normal Q q s h
+every Q q Stripped s h = every-byte stripped dense picks-stripped Q q s h
+
+pub below-256 : (r : Reading) (s : List ℕ) → All (λ (b : ℕ). b < 256) s → All (λ (b : ℕ). b < 256) (textBy r s)
+below-256 r s h = every (λ (b : ℕ). b < 256) (omega arith) r s h

@@ -10,8 +10,8 @@ use lib.Seq.{drop-nil, length-take-le, take-append-seam, drop-append-seam}
 use Rattle.text.specs.declared.utf8.Step.{Step}
 use Rattle.text.specs.declared.utf8.Step.the-variants.{Point, Refused}
 use Rattle.text.specs.Utf8.{stepOf}
-use Rattle.text.specs.Content.{Piece, Content, malformed, content, withFirst, onStep, contentFrom, contentOf, bytesOf}
-use Rattle.text.specs.Neat.{All}
+use Rattle.text.specs.Content.{Piece, Content, malformed, content, withFirst, onStep, contentFrom, contentOf}
+use Rattle.text.specs.Neat.{All, bytesOf}
 use Rattle.text.proofs.Points.{point-good, own-bytes, unroll-list}
 
 -- a point that is well-formed: its bytes are read as it, whatever follows
