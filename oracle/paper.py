@@ -1,7 +1,7 @@
-"""Document 01 read once more, in Python: the field check and the line program.
+"""docs/RULES.md read once more, in Python: the field check and the line program.
 
 Nothing here is taken from the Rust or from the proved code; it is held against the latter by lines_test.py.
-A content is bytes, an answer is (verdict, rule, severity, reason) in the paper's numbers."""
+A content is bytes, an answer is (verdict, rule, severity, reason) in the numbers of docs/RULES.md, The answer."""
 
 NO_RULE, ACCEPTED, REFUSED, UNREAD = 0, 1, 2, 3
 FATAL, WARNING = 1, 2

@@ -1,4 +1,4 @@
-//! The line program by document 01: each line's answer is the field check of the original.
+//! The line program by docs/RULES.md, The line program: each line's answer is the field check of the original.
 
 use crate::answers::{LINE, refused};
 use crate::library::{Answer, Batch};
