@@ -37,7 +37,7 @@ def weighted(text, weights):
 
 
 def doubled(text, first):
-    """The digits' total, each second one from `first` on doubled with the digits of the double added."""
+    """The digits' total, each second one from `first` on counted as the sum of its double's digits."""
     return sum(sum(map(int, str(2 * int(d)))) if i % 2 == first else int(d) for i, d in enumerate(text))
 
 

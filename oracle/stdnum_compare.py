@@ -39,6 +39,11 @@ except ImportError as why:
              "On Debian it is the package python3-stdnum, for Debian's own python3.")
 import partyid  # noqa: E402
 
+try:
+    partyid.is_white(0x20)
+except OSError as why:
+    sys.exit(f"stdnum_compare.py: nothing was compared: {why}")
+
 MOST = 200_000  # contents tried for a row
 LETTERS = string.ascii_uppercase
 ACCEPTED = "accepted"
@@ -67,8 +72,8 @@ def theirs(module, content: str) -> str:
 # ---- Contents, in their order
 
 
-def digits(n: int, head: str = "", tail: str = "", start: int = 0) -> Iterator[str]:
-    return (f"{head}{i:0{n}}{tail}" for i in range(start, 10**n))
+def digits(n: int, head: str = "", start: int = 0) -> Iterator[str]:
+    return (f"{head}{i:0{n}}" for i in range(start, 10**n))
 
 
 def lengths(most: int = 20) -> Iterator[str]:
@@ -214,7 +219,10 @@ def main(words: list[str]) -> int:
     wrong = [f"not in the document: {row}" for row in rows if row not in there] + [f"not found: {row}" for row in there if row not in rows]
     if f"python-stdnum {stdnum.__version__}" not in section:
         wrong.append(f"compared with python-stdnum {stdnum.__version__}, which the document does not name")
-    print(*wrong, sep="\n", file=sys.stderr) if wrong else print(f"{len(rows)} rows of docs/DIFFERENCES.md agree with python-stdnum {stdnum.__version__}")
+    for what in wrong:
+        print(what, file=sys.stderr)
+    if not wrong:
+        print(f"{len(rows)} rows of docs/DIFFERENCES.md agree with python-stdnum {stdnum.__version__}")
     return 1 if wrong else 0
 
 
