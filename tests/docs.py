@@ -1,12 +1,13 @@
 #!/usr/bin/env python3
 """Holds the documents to what the programs do.
 
-    tests/docs.py                says what was compared; exits 1 and names each command, case, link or citation that differs
+    tests/docs.py                says what was compared; exits 1 and names each command, case, sum, link or citation that differs
     tests/docs.py --self-test    small documents with one fault each: every fault must be found, and nothing else
 
 Commands: in README.md and docs/RULES.md each line of an indented or fenced block that begins with "$ " is run by sh in the repository's folder.
 What it prints, on both outputs, must be the lines behind it, up to the next command or the block's end.
 Cases: each case in the two tables of docs/RULES.md, Cases on both sides, is asked of the library.
+Sums: each equation between whole numbers in docs/RULES.md, and each number there that is worked through under its weights.
 Links: each link of the documents leads to a file, or to a heading.
 Citations: each "docs/RULES.md, HEADING" in a file of the repository names a heading that is there.
 
@@ -14,6 +15,7 @@ Needs the program and the library as they are built: target/bin/checklines, targ
 from __future__ import annotations
 
 import argparse
+import math
 import os
 import pathlib
 import re
@@ -185,6 +187,37 @@ def case_faults(name: str, text: str) -> tuple[int, list[str]]:
     return tried, faults
 
 
+# ---- Sums
+
+TERMS = r"-?\d+(?: [-+×] \d+)*"
+
+
+def value(terms: str) -> int:
+    """What a sum of products is."""
+    total = 0
+    for sign, product in re.findall(r"(^-?|[-+] )(\d+(?: × \d+)*)", terms):
+        total += (-1 if "-" in sign else 1) * math.prod(int(factor) for factor in product.split(" × "))
+    return total
+
+
+def worked(part: str) -> bool:
+    """A number's products with its weights, or the sums of their digits (counts), are those shown, and so is their total."""
+    rows = {label: [int(word) for word in numbers.split()]
+            for label, numbers in re.findall(r"(?m)^(number|less 1|weight|product|counts) ([\d ]*)", part)}
+    products = [digit * weight for digit, weight in zip(rows.get("less 1") or rows.get("number", []), rows["weight"])]
+    counted = products if "product" in rows else [product // 10 + product % 10 for product in products]
+    total = re.search(r"total (\d+)", part)
+    return counted == rows.get("product", rows.get("counts")) and total is not None and int(total.group(1)) == sum(counted)
+
+
+def sum_faults(name: str, text: str) -> tuple[int, list[str]]:
+    equations = re.findall(rf"(?<![\w.])(({TERMS}) = ({TERMS}))", text)
+    faults = [f"{name}: does not add up: {whole}" for whole, left, right in equations if value(left) != value(right)]
+    tried = [part for block in blocks(text) for part in "\n".join(block).split("\n\n") if "\nweight " in part]
+    faults += [f"{name}: is not worked through right: {part.splitlines()[0]}" for part in tried if not worked(part)]
+    return len(equations) + len(tried), faults
+
+
 # ---- Links and citations
 
 
@@ -227,7 +260,7 @@ def files() -> Iterator[str]:
 
 
 def compare_all() -> tuple[str, list[str]]:
-    counts = dict.fromkeys(("commands", "cases", "links", "citations"), 0)
+    counts = dict.fromkeys(("commands", "cases", "sums", "links", "citations"), 0)
     faults: list[str] = []
 
     def count(kind: str, result: tuple[int, list[str]]) -> None:
@@ -243,6 +276,7 @@ def compare_all() -> tuple[str, list[str]]:
         count("cases", case_faults(RULES, rules))
     except OSError as why:
         faults.append(f"the library can't be called; make builds it: {why}")
+    count("sums", sum_faults(RULES, rules))
     for name in files():
         if name == "tests/docs.py":
             continue
@@ -253,7 +287,7 @@ def compare_all() -> tuple[str, list[str]]:
         if name.endswith(".md"):
             count("links", link_faults(name, text))
         count("citations", citation_faults(name, text, headings(rules)))
-    for kind in ("commands", "cases", "links"):
+    for kind in ("commands", "cases", "sums", "links"):
         if not counts[kind]:
             faults.append(f"no {kind} found")
     return ", ".join(f"{n} {kind}" for kind, n in counts.items()) + " agree", faults
@@ -289,14 +323,24 @@ $ no-such-command-at-all
 | `list 0088 71` | `0 31 79` |
 | `complete 0088 7` | `0 9` |
 
+    number    1  2
+    weight    3  1
+    product   3  2     total 5 = 1 × 5
+
+    number    1  6
+    weight    1  2
+    counts    1  4     total 5 = 2 × 2 + 1
+
+And -10 + 1 × 9 = 0, 3 × 7 + 1 = 22.
+
 [here](#one), [nowhere](#two), [no file](none.md); docs/RULES.md, One; docs/RULES.md, Three
 """
-FAULTS = ("$ echo wrong", "$ echo unsaid", "$ no-such-command-at-all", "0088 `71`", "0088 `17`", "0088 `x`", "`list 0088 71`", "#two", "none.md", "Three")
+FAULTS = ("$ echo wrong", "$ echo unsaid", "$ no-such-command-at-all", "0088 `71`", "0088 `17`", "0088 `x`", "`list 0088 71`", "number    1  6", "-10 + 1 × 9 = 0", "#two", "none.md", "Three")
 
 
 def self_test() -> tuple[str, list[str]]:
     name = "README.md"
-    found = [fault for faults in (command_faults(name, FAULTY)[1], case_faults(name, FAULTY)[1], link_faults(name, FAULTY)[1],
+    found = [fault for faults in (command_faults(name, FAULTY)[1], case_faults(name, FAULTY)[1], sum_faults(name, FAULTY)[1], link_faults(name, FAULTY)[1],
                                   citation_faults(name, FAULTY, headings(FAULTY))[1]) for fault in faults]
     missed = [f"not found: {wanted}" for wanted in FAULTS if sum(wanted in fault for fault in found) != 1]
     more = [f"found and not there: {fault}" for fault in found if not any(wanted in fault for wanted in FAULTS)]
