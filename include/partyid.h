@@ -47,15 +47,15 @@ enum partyid_severity {
 
 enum partyid_reason {
     PARTYID_REASON_NO_REASON = 0, /* not refused, or the work is done */
-    PARTYID_REASON_LONG = 1,      /* the content is over 1,024 bytes, where a rule would read it */
-    PARTYID_REASON_UTF8 = 2,      /* it is not well-formed UTF-8, where a rule would read it */
+    PARTYID_REASON_LONG = 1,      /* the content has more than 1,024 bytes, and a rule reads it */
+    PARTYID_REASON_UTF8 = 2,      /* the content is not well-formed UTF-8, and a rule reads it */
     PARTYID_REASON_FORM = 3,      /* the form is not met */
     PARTYID_REASON_CHECK = 4,     /* the form is met and the check figure is wrong */
-    PARTYID_REASON_ZERO = 5,      /* 0192: nine zeros, or a body of eight zeros to complete */
+    PARTYID_REASON_ZERO = 5,      /* 0192: nine zeros, or eight to complete */
     PARTYID_REASON_NO_FIGURE = 6, /* 0192: no figure completes the body */
-    PARTYID_REASON_SCHEME = 7,    /* completing or listing of a scheme other than the five */
+    PARTYID_REASON_SCHEME = 7,    /* only 0088, 0192, 0208, 0007 and 0151 are completed and listed */
     PARTYID_REASON_ROOM = 8,      /* the output area is too short */
-    PARTYID_REASON_GOOD = 9,      /* listing of a number that is accepted */
+    PARTYID_REASON_GOOD = 9,      /* the number is accepted: there is nothing to correct */
     PARTYID_REASON_TERM = 10,     /* the term number is none that a rule reads */
     PARTYID_REASON_LINE = 11      /* a line whose head is malformed */
 };
@@ -124,8 +124,8 @@ struct partyid_code partyid_withdrawn(const uint8_t *code, size_t code_len);
 
 /* ---- Completing and listing: 0088, 0192, 0208, 0007, 0151. A refusal changes no byte of the area. */
 
-/* The check figure that completes a body of digits: one digit, or two for 0208 and 0151, written at the start of an area of at least
-   2 bytes. For 0151 the two digits belong in front of the body, for the others behind it. */
+/* The check figure that completes a body of digits: two digits for 0208 and 0151, one for the others. The area needs 2 bytes in
+   any case, and the figure stands at its start. For 0151 the two digits belong in front of the body, for the others behind it. */
 struct partyid_done partyid_complete(const uint8_t *scheme, size_t scheme_len, const uint8_t *body, size_t body_len, uint8_t *out, size_t out_len);
 
 /* Every number that is as long as a refused number of n digits, is accepted, and differs from it in one digit or by exchanging two
@@ -135,14 +135,14 @@ struct partyid_done partyid_list(const uint8_t *scheme, size_t scheme_len, const
 
 /* ---- Many lines at once */
 
-/* The answer to one line, without its newline: 4 scheme bytes, space, two digits of term, space, content. Content beyond 1,025 bytes is
-   not read. */
+/* The answer to one line, without its newline: the four bytes of the scheme, a space, the two digits of the term, a space, the content. Content
+   beyond 1,025 bytes is not read. */
 struct partyid_answer partyid_answer_line(const uint8_t *line, size_t line_len);
 
 /* The answers to the lines of a text, four numbers for each line as in struct partyid_answer, for as many lines as the area has
    room: out_len is its size in numbers, and below PARTYID_ANSWER_NUMBERS no line is answered. Numbers after the last answer stay. Where used is
-   less than text_len, call again with the text from there. A last line without newline counts if it has a byte: cut a longer text behind
-   a newline, or the line that is cut is answered in two halves. */
+   less than text_len, call again with the text from there. The last line needs no newline: cut a longer text behind a newline, or
+   the line that is cut is answered in two halves. */
 struct partyid_batch partyid_answer_lines(const uint8_t *text, size_t text_len, uint32_t *out, size_t out_len);
 
 /* ---- Text */

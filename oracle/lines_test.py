@@ -1,9 +1,9 @@
 #!/usr/bin/env python3
-"""Holds the built program target/bin/checklines against paper.py, document 01 read in Python.
+"""Holds the built program target/bin/checklines against paper.py, docs/RULES.md read in Python.
 
     lines_test.py [SEED]      feeds random and adversarial inputs through a pipe, in chunks of random sizes with
                               pauses between them, and compares every byte of the output
-    lines_test.py --cases     writes the program's own stdin and stdout files: document 01's example and the hard cases"""
+    lines_test.py --cases     writes the program's own stdin and stdout files: the example of docs/RULES.md and the hard cases"""
 import os, pathlib, random, subprocess, sys, threading, time
 
 sys.dont_write_bytecode = True  # no folder beside the sources
@@ -214,7 +214,7 @@ def report(index, data, want, got):
 
 
 def cases():
-    """Document 01's example and the hard cases; the last line has no newline."""
+    """The example of docs/RULES.md and the hard cases; the last line has no newline."""
     lines = [b"0088 34 71", b"0088 34 17", b"0060 34 x"]
     # malformed heads: too short, empty, a wrong byte at each place, a third or a missing digit, a tab, a sign
     lines += [b"", b"0", b"0088", b"0088 34", b"0088 3", b"0088 34x", b"0088-34 17", b"0088 x4 17", b"0088 3x 17", b"0088 34-17", b"0088  34 17",
@@ -247,7 +247,7 @@ def cases():
             lines += [scheme + b" %d " % term + t.encode() for t in (yes[scheme], no[scheme], " " + yes[scheme] + "\u00a0")]
     for term in TERMS:
         lines += [b"9907 %d 12345678901" % term, b"0192 %d NL123456789B01" % term, b"0192 %d NL1" % term]
-    # the other examples of document 01
+    # the other examples of docs/RULES.md
     lines += [s.encode() for s in ("0088 34 0", "0088 34 505", "0088 34 550", "0192 34 000000140", "0192 34 000000000", "0208 34 1234567894", "0007 34 0000000901",
                                    "0007 34 0000000091", "0151 34 51824753556", "0151 34 10000000000", "0211 34 It1", "0184 34  12345678")]
     return b"\n".join(lines) + b"\n0088 34 17"

@@ -1,7 +1,7 @@
-"""Document 01 read once more, in Python: the field check and the line program.
+"""docs/RULES.md read once more, in Python: the field check and the line program.
 
 Nothing here is taken from the Rust or from the proved code; it is held against the latter by lines_test.py.
-A content is bytes, an answer is (verdict, rule, severity, reason) in the paper's numbers."""
+A content is bytes, an answer is (verdict, rule, severity, reason) in the numbers of docs/RULES.md, The answer."""
 
 NO_RULE, ACCEPTED, REFUSED, UNREAD = 0, 1, 2, 3
 FATAL, WARNING = 1, 2
@@ -37,7 +37,7 @@ def weighted(text, weights):
 
 
 def doubled(text, first):
-    """The digits' total, each second one from `first` on doubled with the digits of the double added."""
+    """The digits' total, each second one from `first` on counted as the sum of its double's digits."""
     return sum(sum(map(int, str(2 * int(d)))) if i % 2 == first else int(d) for i, d in enumerate(text))
 
 

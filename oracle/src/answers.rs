@@ -1,4 +1,4 @@
-//! Document 01's numbers, and the kinds of answer that are made of them.
+//! The numbers of docs/RULES.md, Reasons, and of the rest of an answer, and the kinds of answer that are made of them.
 
 use crate::library::{AREA, Answer};
 
@@ -38,7 +38,7 @@ const fn answer(verdict: u32, rule: u32, severity: u32, reason: u32) -> Answer {
     }
 }
 
-/// What the original can read of a content; document 01's reason where it can't.
+/// What the original can read of a content; the reason of docs/RULES.md, Readable content, where it can't.
 pub fn readable(content: &[u8]) -> Result<&str, u32> {
     if AREA < content.len() {
         return Err(LONG);

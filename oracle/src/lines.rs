@@ -1,4 +1,4 @@
-//! The line program by document 01: each line's answer is the field check of the original.
+//! The line program by docs/RULES.md, The line program: each line's answer is the field check of the original.
 
 use crate::answers::{LINE, refused};
 use crate::library::{Answer, Batch};
@@ -10,7 +10,7 @@ pub const HEAD: usize = 8;
 /// What is read of a content: one byte more than a rule may read.
 pub const READ: usize = 1025;
 
-/// The answer to a line, its newline left out: 4 scheme bytes, space, two digits of term, space, content.
+/// The answer to a line, its newline left out: the four bytes of the scheme, a space, the two digits of the term, a space, the content.
 pub fn answer_line(line: &[u8]) -> Answer {
     let Some((
         &[

@@ -1,4 +1,4 @@
-/* Calls every function of partyid.h, with document 01's cases and with bad calls, and checks each answer and every byte around it. */
+/* Calls every function of partyid.h, with the cases of docs/RULES.md and with bad calls, and checks each answer and every byte around it. */
 #include "kit.h"
 
 int main(void)

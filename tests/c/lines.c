@@ -129,7 +129,7 @@ static void lines_by_room(struct bytes text)
 
 #define LINES(text) (AT_THIS_LINE, lines_by_room(text))
 
-/* Document 01's whole example, with room for all of it, for two lines and a part, and for none. */
+/* The first example of docs/RULES.md, The line program, with room for all of it, for two lines and a part, and for none. */
 static void example(void)
 {
     const struct batch all = {{3, 32}, {2, 40, 1, 4, 1, 40, 1, 0, 0, 0, 0, 0}};

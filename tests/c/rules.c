@@ -1,4 +1,4 @@
-/* Each rule's cases of document 01, on both sides. */
+/* Each rule's cases of docs/RULES.md, Cases on both sides. */
 #include "field.h"
 
 #include <string.h>

@@ -3,7 +3,7 @@
 use crate::raw;
 use crate::{Reason, Text};
 
-/// The check figure that completes a body of digits, for 0088, 0192, 0208, 0007 and 0151: one digit, or two for 0208 and 0151.
+/// The check figure that completes a body of digits, for 0088, 0192, 0208, 0007 and 0151: two digits for 0208 and 0151, else one.
 /// For 0151 the two digits belong in front of the body, for the others behind it.
 ///
 /// ```

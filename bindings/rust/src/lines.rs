@@ -6,7 +6,7 @@ use crate::raw;
 use core::fmt;
 use core::iter::FusedIterator;
 
-/// The answer to one line, without its newline: 4 scheme bytes, space, two digits of term, space, content.
+/// The answer to one line, without its newline: the four bytes of the scheme, a space, the two digits of the term, a space, the content.
 ///
 /// ```
 /// use partyid::{Reason, Verdict, answer_line};
@@ -18,7 +18,7 @@ pub fn answer_line(line: impl AsRef<[u8]>) -> Answer {
     Answer::of_library(raw::answer_line(line.as_ref()))
 }
 
-/// The answers to the lines of a text, in their order. A last line without newline counts if it has a byte.
+/// The answers to the lines of a text, in their order. The last line needs no newline, but a byte.
 ///
 /// ```
 /// use partyid::answer_lines;

@@ -5,23 +5,23 @@ numbered! {
     Reason called "reason" {
         /// Not refused, or the work is done.
         NoReason = 0 "no reason",
-        /// The content is over 1,024 bytes, where a rule would read it.
+        /// The content has more than 1,024 bytes, and a rule reads it.
         Long = 1 "the content is over 1,024 bytes",
-        /// The content is not well-formed UTF-8, where a rule would read it.
+        /// The content is not well-formed UTF-8, and a rule reads it.
         Utf8 = 2 "the content is not well-formed UTF-8",
         /// The form is not met.
         Form = 3 "the form is not met",
         /// The form is met and the check figure is wrong.
         Check = 4 "the form is met and the check figure is wrong",
-        /// 0192: nine zeros, or a body of eight zeros to complete.
+        /// 0192: nine zeros, or eight to complete.
         Zero = 5 "all digits are zero",
         /// 0192: no figure completes the body.
         NoFigure = 6 "no check figure completes the body",
-        /// Completing or listing of a scheme other than the five.
+        /// Only 0088, 0192, 0208, 0007 and 0151 are completed and listed.
         Scheme = 7 "the scheme is none that can be completed or listed",
         /// The output area is too short. The areas of this crate never are.
         Room = 8 "the output area is too short",
-        /// Listing of a number that is accepted.
+        /// The number is accepted: there is nothing to correct.
         Good = 9 "the number is accepted, so there is nothing to correct",
         /// The term number is none that a rule reads.
         Term = 10 "the term number is none that a rule reads",

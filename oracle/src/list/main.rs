@@ -1,4 +1,4 @@
-//! Makes the list that the program `replay` runs: examples, and what the Rust original and document 01 answer.
+//! Makes the list that the program `replay` runs: examples, and what the Rust original and docs/RULES.md answer.
 //!
 //!     list            writes crates/replay/stdin and crates/replay/stdout
 //!     list --check    fails where they are not what would be written

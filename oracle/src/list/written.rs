@@ -14,7 +14,7 @@ pub fn escaped(content: &[u8]) -> String {
         .collect()
 }
 
-/// Document 01's reasons by their numbers.
+/// The reasons of docs/RULES.md, Reasons, by their numbers.
 pub const REASONS: [&str; 12] = [
     "done", "LONG", "UTF8", "FORM", "CHECK", "ZERO", "NONE", "SCHEME", "ROOM", "GOOD", "TERM",
     "LINE",

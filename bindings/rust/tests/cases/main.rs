@@ -1,4 +1,4 @@
-//! Every case of bindings/cases.txt, which holds what document 01 says.
+//! Every case of bindings/cases.txt, which holds what docs/RULES.md says.
 
 mod call;
 mod notation;
