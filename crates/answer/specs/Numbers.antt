@@ -1,4 +1,4 @@
--- The number that document 01 gives to each verdict, severity and reason.
+-- The number of each verdict, severity and reason (docs/RULES.md, The answer).
 use Prim.Native.Nat.{ℕ}
 use Rattle.answer.specs.declared.verdict.Verdict.{Verdict}
 use Rattle.answer.specs.declared.verdict.Verdict.the-variants.{NoRule, Accepted, Refused, Unread}

@@ -1,4 +1,4 @@
-// The answer of a check: one record by value, of document 01's verdicts, rule numbers, severities and reasons.
+// The answer of a check (docs/RULES.md, The answer): one record by value, of verdict, rule number, severity and reason.
 mod reason;
 mod record;
 mod severity;

@@ -1,4 +1,4 @@
-// Why a content, a body, a number or a line is refused.
+// Why a content, a body, a number or a line is refused (docs/RULES.md, Reasons).
 ghost use mathlib.Core.Path.{_≡_};
 ghost use Rattle.answer.specs.Numbers.{reasonNumber};
 
@@ -10,7 +10,7 @@ pub enum Reason {
     Form,
     Check,
     Zero,
-    // document 01's NONE: no figure completes the body
+    // no figure completes the body
     NoFigure,
     Scheme,
     Room,

@@ -1,2 +1,2 @@
--- Document 01's examples: those it marks P are proved, all others are run.
+-- docs/RULES.md, Cases on both sides: those in bold are proved, all others are run.
 pub mod Paper

@@ -1,4 +1,5 @@
--- The cases that document 01 marks P, proved together: one table over the definitions of all crates, under one statement. Assumes nothing.
+-- The cases in bold in docs/RULES.md, Cases on both sides, proved together: one table over the definitions of all crates, under one statement.
+-- Assumes nothing.
 use mathlib.Core.Path.{_≡_, refl}
 use mathlib.Core.List.{List, [], _∷_, map}
 use Prim.Native.Nat.{ℕ}
@@ -34,7 +35,7 @@ pub data Said : Type 0 where
   answers : Answer → Said
   does : Outcome → Said
 
--- a field by its scheme, an IBAN, a body to complete, a number to list; and what document 01 says of it
+-- a field by its scheme, an IBAN, a body to complete, a number to list; and what docs/RULES.md says of it
 pub data Case : Type 0 where
   field : String → String → Answer → Case
   iban : String → Answer → Case

@@ -1,4 +1,4 @@
-// Document 01's examples and others chosen by hand.
+// The cases of docs/RULES.md and others, on both sides of each rule.
 fn main() {
     examples::run_input();
 }

@@ -1,4 +1,4 @@
--- The forms of document 01, by the rules that read them. Rules 45 and 46 read code points and have no form here.
+-- The forms of the rules (docs/RULES.md, How a rule is told). Rules 45 and 46 read code points and have no form here.
 use mathlib.Core.List.{List}
 use Prim.Native.Nat.{ℕ}
 use Prim.Native.Char.{Char, code}

@@ -9,7 +9,7 @@ use super::rule::Rule;
 use ascii::among;
 use ascii::wide;
 
-// The rule that reads a field, or none, or the term is not one of document 01's.
+// The rule that reads a field, or none, or there is no such term (docs/RULES.md, Terms).
 pub enum Chosen {
     By(Rule),
     NoRule,
