@@ -1,11 +1,11 @@
-# The library for C:
+# The library for C, and the line program:
 #
-#   make                                    target/c/libpartyid.a, libpartyid.so and partyid.pc
+#   make                                    target/c/libpartyid.a, libpartyid.so and partyid.pc; target/native/checklines
 #   make install PREFIX=/usr/local DESTDIR= puts them in place, and the header
 #   make test                               tests/run
 #   make clean                              removes target/c; what is proved stays
 #
-# Needs rt, the command of the Rattle kit, where the library is not proved yet or its sources have changed.
+# Needs rt, the command of the Rattle kit, where something is not proved yet or its sources have changed.
 
 VERSION := 0.1.0
 # Goes up when a program linked against the former library would no longer work.
@@ -20,21 +20,30 @@ OBJCOPY ?= objcopy
 
 OUT := target/c
 PROVED := target/staticlib/libpartyid.a
+PROGRAM := target/native/checklines
 
 # Every library crate, with its folders: a file that is removed changes only its folder. Programs and must-fail edits are no part of it.
 CRATES := $(patsubst %/src/lib.rt,%,$(wildcard crates/*/src/lib.rt))
-SOURCES := crates.txt $(shell find $(wildcard $(foreach part,src specs proofs,$(CRATES:%=%/$(part)))))
+sources_of = $(shell find $(wildcard $(foreach part,src specs proofs,$(1:%=%/$(part)))))
+SOURCES := crates.txt $(call sources_of,$(CRATES))
+MACHINE := machine/is_native machine/object
 
 .DELETE_ON_ERROR:
 .PHONY: all install test clean FORCE
 
-all: $(OUT)/libpartyid.a $(OUT)/libpartyid.so $(OUT)/partyid.pc
+all: $(OUT)/libpartyid.a $(OUT)/libpartyid.so $(OUT)/partyid.pc $(PROGRAM)
 
 # The prover tells each step; it is shown where a step fails.
-$(PROVED): $(SOURCES)
+$(PROVED): $(SOURCES) $(MACHINE) machine/staticlib
 	@mkdir -p $(OUT)
 	@echo 'proving the library; from nothing this takes some minutes ..'
 	@machine/staticlib partyid >$(OUT)/rt.log 2>&1 || { cat $(OUT)/rt.log >&2; exit 1; }
+
+# Not beside the library: two runs of rt would prove the same crates into the same files.
+$(PROGRAM): $(SOURCES) $(call sources_of,crates/checklines) $(MACHINE) machine/program machine/os.c | $(PROVED)
+	@mkdir -p $(OUT)
+	@echo 'proving the line program ..'
+	@machine/program checklines >$(OUT)/program.log 2>&1 || { cat $(OUT)/program.log >&2; exit 1; }
 
 # Where a loop lies to the boundaries of a line of the cache can double its time: each function begins at one, wherever a program puts it.
 $(OUT)/libpartyid.a: $(PROVED)
