@@ -7,7 +7,7 @@
 #
 # Needs rt, the command of the Rattle kit, where something is not proved yet or its sources have changed.
 
-VERSION := 0.1.0
+VERSION := $(shell sed -n 's/^\#define PARTYID_VERSION "\(.*\)"$$/\1/p' include/partyid.h)
 # Goes up when a program linked against the former library would no longer work.
 SONAME := libpartyid.so.0
 
@@ -45,10 +45,15 @@ $(PROGRAM): $(SOURCES) $(call sources_of,crates/checklines) $(MACHINE) machine/p
 	@echo 'proving the line program ..'
 	@machine/program checklines >$(OUT)/program.log 2>&1 || { cat $(OUT)/program.log >&2; exit 1; }
 
-# Where a loop lies to the boundaries of a line of the cache can double its time: each function begins at one, wherever a program puts it.
-$(OUT)/libpartyid.a: $(PROVED)
+# The version and the words, the one part of the library that is not proved. It decides nothing.
+$(OUT)/words.o: c/words.c include/partyid.h
 	@mkdir -p $(OUT)
+	$(CC) -std=c11 -O2 -Wall -Wextra -Wpedantic -fPIC -Iinclude $(CFLAGS) -c -o $@ $<
+
+# Where a loop lies to the boundaries of a line of the cache can double its time: each function begins at one, wherever a program puts it.
+$(OUT)/libpartyid.a: $(PROVED) $(OUT)/words.o
 	$(OBJCOPY) --set-section-alignment '.text*=64' $< $@
+	$(AR) rs $@ $(OUT)/words.o
 
 # -z defs refuses a symbol that neither the archive nor the C library has, -z text code that is not position-independent.
 $(OUT)/$(SONAME): $(OUT)/libpartyid.a include/partyid.map

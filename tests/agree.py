@@ -21,6 +21,7 @@ from agreement.header import read_header, without_comments
 from agreement.interface import Interface, Unreadable, differing, disagreements
 from agreement.python_binding import python_disagreements
 from agreement.rust_binding import rust_disagreements
+from agreement.words import library_words, python_words, rust_words, version_disagreements, version_of_crate, words_disagreements
 
 ROOT = pathlib.Path(__file__).resolve().parent.parent
 CRATES = ROOT / "crates"
@@ -49,27 +50,32 @@ def symbols(*command: str) -> list[str]:
 
 
 def library_disagreements(wanted: Interface, built: pathlib.Path) -> list[str]:
-    """The libraries show exactly the functions."""
-    functions = dict.fromkeys(wanted.functions, "shown")
+    """The libraries show exactly the functions that are proved, and those that have words."""
+    functions = dict.fromkeys([*wanted.functions, *wanted.words], "shown")
     shared = dict.fromkeys(symbols("--dynamic", str(built / "libpartyid.so")), "shown")
     static = dict.fromkeys(symbols("--extern-only", str(built / "libpartyid.a")), "shown")
     return differing("libpartyid.so:", functions, shared) + differing("libpartyid.a:", functions, static)
 
 
 def compare(header: pathlib.Path, built: pathlib.Path) -> list[str]:
-    wanted, numbered = read_definitions(CRATES), cases(CRATES)
+    version = version_of_crate(ROOT)
+    wanted, numbered = read_definitions(CRATES, version), cases(CRATES)
     found = {
         header.name: header_disagreements(wanted, header.read_text()),
         "libraries": told(lambda: library_disagreements(wanted, built)),
         "bindings/rust": told(lambda: rust_disagreements(RUST, wanted, numbered)),
         "bindings/python": told(lambda: python_disagreements(PYTHON, wanted, numbered)),
+        "bindings/rust beside the library": told(lambda: words_disagreements(library_words(built, numbered), rust_words(RUST))),
+        "bindings/python beside the library": told(lambda: words_disagreements(library_words(built, numbered), python_words(PYTHON))),
+        "version": told(lambda: version_disagreements(ROOT, built, version)),
     }
     return [f"{where}: {what}" for where, all_of in found.items() for what in all_of]
 
 
 def said_of(wanted: Interface) -> str:
     numbers = sum(len(numbered) for numbered in wanted.enums.values())
-    return f"{numbers} numbers, {len(wanted.structs)} structs, {len(wanted.functions)} functions, {len(wanted.constants)} constants agree"
+    functions = f"{len(wanted.functions)} proved functions and {len(wanted.words) + len(wanted.inlines)} others"
+    return f"{numbers} numbers with their words, {len(wanted.structs)} structs, {functions}, {len(wanted.constants)} constants and the version agree"
 
 
 def first_difference(source: str, altered: str) -> str:
@@ -80,7 +86,7 @@ def first_difference(source: str, altered: str) -> str:
 
 def self_test(header: pathlib.Path) -> tuple[int, list[str]]:
     """How many altered headers were tried, and those that were not refused. It says nothing where the header itself is refused."""
-    wanted, source = read_definitions(CRATES), header.read_text()
+    wanted, source = read_definitions(CRATES, version_of_crate(ROOT)), header.read_text()
     if header_disagreements(wanted, source):
         return 0, [f"{header} disagrees before it is altered"]
     altered = list(altered_headers(source))
@@ -99,7 +105,7 @@ def main() -> int:
         said = f"{tried} altered headers refused"
     else:
         found = compare(given.header, given.built)
-        said = said_of(read_definitions(CRATES))
+        said = said_of(read_definitions(CRATES, version_of_crate(ROOT)))
     for what in found:
         print(what, file=sys.stderr)
     if not found:

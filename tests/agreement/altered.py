@@ -4,14 +4,15 @@ from __future__ import annotations
 import re
 from collections.abc import Callable, Iterator
 
-from .header import CONSTANT, ENUM, FUNCTION, STRUCT, items, without_comments
+from .header import CONSTANT, ENUM, FUNCTION, INLINE, STRUCT, items, without_comments
 
 OTHER_TYPE = {
     "uint32_t": "uint64_t",
     "size_t": "uint32_t",
-    "const uint8_t *": "uint8_t *",
-    "uint8_t *": "const uint8_t *",
+    "const void *": "void *",
+    "void *": "const void *",
     "uint32_t *": "uint64_t *",
+    "struct partyid_answer *": "struct partyid_done *",
     "uint8_t": "uint16_t",
 }
 
@@ -27,7 +28,7 @@ def renamed(item: str) -> str:
 
 
 def retyped(item: str) -> str:
-    found = re.search(r"(?:const )?\w+(?: \*|(?= ))", item)
+    found = re.search(r"(?:const )?(?:struct )?\w+(?: \*|(?= ))", item)
     return item.replace(found[0], OTHER_TYPE[found[0]], 1) if found and found[0] in OTHER_TYPE else item
 
 
@@ -60,10 +61,18 @@ def declarations(text: str, pattern: re.Pattern[str], name: int) -> Iterator[str
 
 
 def results(text: str) -> Iterator[str]:
-    for match in FUNCTION.finditer(text):
-        for other in ("struct partyid_answer", "struct partyid_done", "bool", "uint32_t"):
+    for match in (*FUNCTION.finditer(text), *INLINE.finditer(text)):
+        for other in ("struct partyid_answer ", "struct partyid_done ", "bool ", "uint32_t ", "const char *"):
             if other != match[1]:
                 yield text[: match.start(1)] + other + text[match.end(1) :]
+
+
+def returned(text: str) -> Iterator[str]:
+    """Each word of what an inline function returns, another one."""
+    for match in INLINE.finditer(text):
+        for word in re.finditer(r"\w+|[?:&*]|==|->", match[4]):
+            at = match.start(4) + word.start()
+            yield text[:at] + f"other({word[0]})" + text[at + len(word[0]) :]
 
 
 def values(text: str) -> Iterator[str]:
@@ -80,7 +89,9 @@ def strangers(text: str) -> Iterator[str]:
     """Things that a header may have and this one has not."""
     for line in ("typedef int partyid_kind;", "extern int partyid_state;", "#define PARTYID_OTHER 1", "#include <stdio.h>", "union partyid_any { int n; };"):
         yield text.replace("\nenum partyid_verdict", f"\n{line}\nenum partyid_verdict")
-    yield text.replace(", uint8_t *area", ", ...")
+    yield text.replace(", void *area", ", ...")
+    yield text.replace("(void)", "()")
+    yield text.replace("static inline ", "")
 
 
 def altered_headers(source: str) -> Iterator[str]:
@@ -88,8 +99,10 @@ def altered_headers(source: str) -> Iterator[str]:
     yield from bodies(text, ENUM, 2, ",", [renumbered, renamed])
     yield from bodies(text, STRUCT, 2, ";", [renumbered, renamed, retyped])
     yield from bodies(text, FUNCTION, 3, ",", [renamed, retyped])
+    yield from bodies(text, INLINE, 3, ",", [renamed, retyped])
     yield from results(text)
+    yield from returned(text)
     yield from values(text)
     yield from strangers(text)
-    for pattern, name in ((ENUM, 1), (STRUCT, 1), (FUNCTION, 2), (CONSTANT, 1)):
+    for pattern, name in ((ENUM, 1), (STRUCT, 1), (FUNCTION, 2), (INLINE, 2), (CONSTANT, 1)):
         yield from declarations(text, pattern, name)
