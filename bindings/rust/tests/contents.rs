@@ -82,6 +82,29 @@ fn an_answer_is_told_in_words() {
 }
 
 #[test]
+fn a_successor_is_a_text() {
+    let found = partyid::withdrawn("9901");
+    assert_eq!(format!("{found:?}"), r#"Successor("0096")"#);
+    let partyid::Withdrawal::Successor(code) = found else {
+        panic!("{found}")
+    };
+    assert_eq!(format!("{code}|{code:>6}|{code:?}"), "0096|  0096|\"0096\"");
+    assert_eq!(check(code, 34, "1234567890").verdict, Verdict::Accepted);
+}
+
+#[test]
+fn white_points_are_asked_for_by_number_and_by_char() {
+    assert!(partyid::is_white(0xa0) && partyid::is_white('\u{a0}') && partyid::is_white(32));
+    assert!(!partyid::is_white(0x200b) && !partyid::is_white(0xffff_ffff));
+}
+
+#[test]
+fn reasons_are_ordered_by_number() {
+    assert!(Reason::ALL.is_sorted());
+    assert!(Reason::Form < Reason::Check && Reason::Line > Reason::Term);
+}
+
+#[test]
 fn a_reason_is_an_error() {
     fn normalized(content: &[u8]) -> Result<String, Box<dyn std::error::Error>> {
         Ok(normalize_space(content)?.to_string())
