@@ -15,7 +15,7 @@ static void show_answer(struct partyid_answer answer)
         printf(" by rule %" PRIu32, answer.rule);
     }
     if (answer.verdict == PARTYID_VERDICT_REFUSED) {
-        printf(" (%s): %s", partyid_severity_words(answer.severity), partyid_reason_words(answer.reason));
+        printf(" (severity %s): %s", partyid_severity_words(answer.severity), partyid_reason_words(answer.reason));
     }
     printf("\n");
 }

@@ -128,7 +128,7 @@ class Building(InFolder):
 
     def setUp(self) -> None:
         super().setUp()
-        self.root = self.folder / "root"
+        self.root = self.folder / "a root"
         (self.root / "crates/checklines/src").mkdir(parents=True)
         (self.root / "crates.txt").touch()
         shutil.copy(SCRIPT, self.root)

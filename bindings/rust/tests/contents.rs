@@ -57,11 +57,8 @@ fn contents_of_many_types_are_taken() {
 #[test]
 fn an_answer_is_told_in_words() {
     let told = |scheme, content| check(scheme, 34, content).to_string();
-    assert_eq!(told("0088", "17"), "accepted by rule 40 (severity fatal)");
-    assert_eq!(
-        told("0211", "It1"),
-        "let through unread by rule 47 (severity warning)"
-    );
+    assert_eq!(told("0088", "17"), "accepted by rule 40");
+    assert_eq!(told("0211", "It1"), "let through unread by rule 47");
     assert_eq!(
         told("9944", "NL"),
         "refused by rule 561 (severity warning): the form is not met"
