@@ -2,7 +2,7 @@
 """Holds include/partyid.h, the libraries and the bindings to the definitions, in both directions: nothing missing, nothing more.
 
     tests/agree.py                  says what was compared; exits 1 with each disagreement
-    tests/agree.py --self-test      copies of the header, each altered in one place: every one must be refused
+    tests/agree.py --self-test      copies of the header and of the words' source, each altered in one place: every one must be refused
 
     --header FILE    another header in the place of include/partyid.h
     --built FOLDER   another folder of libraries in the place of target/c"""
@@ -10,12 +10,14 @@ from __future__ import annotations
 
 import argparse
 import pathlib
+import shutil
 import subprocess
 import sys
+import tempfile
 from collections.abc import Callable
 
 sys.dont_write_bytecode = True  # no folder beside the sources
-from agreement.altered import altered_headers
+from agreement.altered import altered_headers, altered_words
 from agreement.definitions import cases, read_definitions
 from agreement.header import read_header, without_comments
 from agreement.interface import Interface, Unreadable, differing, disagreements
@@ -27,6 +29,7 @@ ROOT = pathlib.Path(__file__).resolve().parent.parent
 CRATES = ROOT / "crates"
 HEADER = ROOT / "include/partyid.h"
 BUILT = ROOT / "target/c"
+WORDS = ROOT / "c/words.c"
 RUST = ROOT / "bindings/rust/src"
 PYTHON = ROOT / "bindings/python/partyid.py"
 
@@ -65,8 +68,8 @@ def compare(header: pathlib.Path, built: pathlib.Path) -> list[str]:
         "libraries": told(lambda: library_disagreements(wanted, built)),
         "bindings/rust": told(lambda: rust_disagreements(RUST, wanted, numbered)),
         "bindings/python": told(lambda: python_disagreements(PYTHON, wanted, numbered)),
-        "bindings/rust beside the library": told(lambda: words_disagreements(library_words(built, numbered), rust_words(RUST))),
-        "bindings/python beside the library": told(lambda: words_disagreements(library_words(built, numbered), python_words(PYTHON))),
+        "libpartyid.so beside bindings/rust": told(lambda: words_disagreements(rust_words(RUST), library_words(built, numbered))),
+        "bindings/python beside bindings/rust": told(lambda: words_disagreements(rust_words(RUST), python_words(PYTHON))),
         "version": told(lambda: version_disagreements(ROOT, built, version)),
     }
     return [f"{where}: {what}" for where, all_of in found.items() for what in all_of]
@@ -82,6 +85,28 @@ def first_difference(source: str, altered: str) -> str:
     """The first line of an altered header that the header does not have, comments left out."""
     lines = set(without_comments(source).splitlines())
     return next((line.strip() for line in altered.splitlines() if line not in lines), "a line is left out")
+
+
+def agrees_as_library(source: str, folder: pathlib.Path) -> bool:
+    """Whether a library of other words, alone in a folder, has the words and the version of the others."""
+    folder.mkdir()
+    (folder / "words.c").write_text(source)
+    shutil.copy(BUILT / "partyid.pc", folder)
+    command = ["cc", "-w", "-shared", "-fPIC", f"-I{HEADER.parent}", "-o", str(folder / "libpartyid.so"), str(folder / "words.c")]
+    subprocess.run(command, check=True)
+    words = told(lambda: words_disagreements(rust_words(RUST), library_words(folder, cases(CRATES))))
+    return not words and not version_disagreements(ROOT, folder, version_of_crate(ROOT))
+
+
+def self_test_of_words() -> tuple[int, list[str]]:
+    """How many altered sources of the words were tried, and those that were not refused."""
+    with tempfile.TemporaryDirectory() as place:
+        source = WORDS.read_text()
+        if not agrees_as_library(source, pathlib.Path(place, "as it is")):
+            return 0, [f"{WORDS} disagrees before it is altered"]
+        altered = list(altered_words(source))
+        agreed = [text for i, text in enumerate(altered) if agrees_as_library(text, pathlib.Path(place, str(i)))]
+        return len(altered), [f"agrees although it is altered: {first_difference(source, text)}" for text in agreed]
 
 
 def self_test(header: pathlib.Path) -> tuple[int, list[str]]:
@@ -101,8 +126,10 @@ def main() -> int:
     options.add_argument("--self-test", action="store_true")
     given = options.parse_args()
     if given.self_test:
-        tried, found = self_test(given.header)
-        said = f"{tried} altered headers refused"
+        headers, found = self_test(given.header)
+        words, found_of_words = self_test_of_words()
+        found += found_of_words
+        said = f"{headers} altered headers and {words} altered sources of words refused"
     else:
         found = compare(given.header, given.built)
         said = said_of(read_definitions(CRATES, version_of_crate(ROOT)))

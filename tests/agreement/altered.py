@@ -1,4 +1,4 @@
-"""Copies of a header, each altered in one place. A comparison that agrees with one of them does not compare that place."""
+"""Copies of the header and of the words' source, each altered in one place. A comparison that agrees with one of them does not compare that place."""
 from __future__ import annotations
 
 import re
@@ -92,6 +92,22 @@ def strangers(text: str) -> Iterator[str]:
     yield text.replace(", void *area", ", ...")
     yield text.replace("(void)", "()")
     yield text.replace("static inline ", "")
+
+
+WORDS = re.compile(r"(?<=\] = )\"[^\"]*\"")
+
+
+def altered_words(source: str) -> Iterator[str]:
+    """Each word another one, left out, and exchanged with the next; numbers that stand for nothing called something else; another version."""
+    found = list(WORDS.finditer(source))
+    for match in found:
+        yield source[: match.start()] + '"other words"' + source[match.end() :]
+        yield source[: match.start()] + "0" + source[match.end() :]
+    for one, next_one in zip(found, found[1:]):
+        yield source[: one.start()] + next_one[0] + source[one.end() : next_one.start()] + one[0] + source[next_one.end() :]
+    yield source.replace('"unknown"', '"no reason"')
+    yield source.replace("number < count", "number < count - 1")
+    yield source.replace("return PARTYID_VERSION;", 'return "0.0.0";')
 
 
 def altered_headers(source: str) -> Iterator[str]:

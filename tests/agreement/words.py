@@ -32,7 +32,7 @@ def library_words(built: pathlib.Path, cases: dict[str, Cases]) -> Words:
     for enum in WORDED:
         say = library[f"partyid_{enum}_words"]
         say.argtypes, say.restype = [ctypes.c_uint32], ctypes.c_char_p
-        found[enum] = {upper_snake(case): say(number).decode() for case, number in cases[enum]}
+        found[enum] = {upper_snake(case): (say(number) or b"a null pointer").decode() for case, number in cases[enum]}
         last = max(number for _, number in cases[enum])
         others = {say(number) for number in (last + 1, last + 2, 255, 2**31, 2**32 - 1)}
         if others != {b"unknown"}:
