@@ -1,13 +1,17 @@
 /*
  * partyid.h - checks of party identifiers on invoices, for C11 and C++17.
  *
+ *     struct partyid_answer answer = partyid_check("0088", 4, 34, "71", 2);
+ *     puts(partyid_reason_words(answer.reason));
+ *
  * Every function takes any bytes and asks nothing of its caller but what a pointer with its length is: so many bytes that may be
  * read, or written where the area is not const. A pointer whose length is 0 may be null. An area must not overlap another argument.
  * Nothing is kept between calls and nothing is allocated, so that functions may be called from several threads at once.
  *
  * A number that passes says nothing about whether the party exists: a check figure finds slips of the hand, and knows no register.
  *
- * Each answer is proved equal to a definition; docs/PROMISES.md names it for each function.
+ * Each answer is proved equal to a definition; docs/PROMISES.md names it for each function. Bytes are handed over as void *, so that a string
+ * literal, a char array and a uint8_t array are taken as they are.
  */
 #ifndef PARTYID_H
 #define PARTYID_H
@@ -20,14 +24,27 @@
 extern "C" {
 #endif
 
+/* The version of the library that this header belongs to. */
+#define PARTYID_VERSION_MAJOR 0
+#define PARTYID_VERSION_MINOR 1
+#define PARTYID_VERSION_PATCH 0
+#define PARTYID_VERSION "0.1.0"
+
 /* The bytes of the area that a text is written to, and the most that a content may have where a rule reads it. */
 #define PARTYID_AREA 1024
 
 /* The most digits of a number that partyid_list takes. */
 #define PARTYID_LIST_DIGITS 20
 
+/* A number as a size_t, by the cast of the language at hand. */
+#ifdef __cplusplus
+#define PARTYID_SIZE(n) static_cast<size_t>(n)
+#else
+#define PARTYID_SIZE(n) ((size_t)(n))
+#endif
+
 /* The bytes that partyid_list needs for a number of n digits: room for 2n - 1 entries. */
-#define PARTYID_LIST_ROOM(n) ((2 * (size_t)(n) - 1) * (size_t)(n))
+#define PARTYID_LIST_ROOM(n) ((2 * PARTYID_SIZE(n) - 1) * PARTYID_SIZE(n))
 
 /* The numbers of an answer that partyid_answer_lines writes for each line. */
 #define PARTYID_ANSWER_NUMBERS 4
@@ -108,57 +125,72 @@ struct partyid_batch {
 /* ---- Checks */
 
 /* The check of a field: the scheme's bytes, the number of the business term (29, 30, 31, 34, 46 to 49, 60, 61, 63) and the content. */
-struct partyid_answer partyid_check(const uint8_t *scheme, size_t scheme_len, uint32_t term, const uint8_t *content, size_t content_len);
+struct partyid_answer partyid_check(const void *scheme, size_t scheme_len, uint32_t term, const void *content, size_t content_len);
 
 /* IBAN: 5 to 34 letters or digits once white is removed, and remainder 1 by 97. That is the whole test: no country's length. */
-struct partyid_answer partyid_is_valid_iban_checksum(const uint8_t *content, size_t content_len);
+struct partyid_answer partyid_is_valid_iban_checksum(const void *content, size_t content_len);
 
 /* Creditor identifier: its form alone. */
-struct partyid_answer partyid_is_valid_creditor_identifier(const uint8_t *content, size_t content_len);
+struct partyid_answer partyid_is_valid_creditor_identifier(const void *content, size_t content_len);
 
 /* Strict GLN: with scheme 0088 exactly 13 digits, as they stand, and the check digit. Any other scheme: no rule. */
-struct partyid_answer partyid_eas_value(const uint8_t *scheme, size_t scheme_len, const uint8_t *content, size_t content_len);
+struct partyid_answer partyid_eas_value(const void *scheme, size_t scheme_len, const void *content, size_t content_len);
 
 /* Whether a scheme code is withdrawn, and what took its place. */
-struct partyid_code partyid_withdrawn(const uint8_t *code, size_t code_len);
+struct partyid_code partyid_withdrawn(const void *code, size_t code_len);
 
 /* ---- Completing and listing: 0088, 0192, 0208, 0007, 0151. A refusal changes no byte of the area. */
 
 /* The check figure that completes a body of digits: two digits for 0208 and 0151, one for the others. The area needs 2 bytes in
    any case, and the figure stands at its start. For 0151 the two digits belong in front of the body, for the others behind it. */
-struct partyid_done partyid_complete(const uint8_t *scheme, size_t scheme_len, const uint8_t *body, size_t body_len, uint8_t *out, size_t out_len);
+struct partyid_done partyid_complete(const void *scheme, size_t scheme_len, const void *body, size_t body_len, void *out, size_t out_len);
 
 /* Every number that is as long as a refused number of n digits, is accepted, and differs from it in one digit or by exchanging two
    unequal neighbours: first the replacements, then the exchanges, each from the left. Each entry is n digits, one after another. The area
    needs PARTYID_LIST_ROOM(n) bytes, whatever is found; n is the length of the normalised content. Bytes after the last entry stay. */
-struct partyid_done partyid_list(const uint8_t *scheme, size_t scheme_len, const uint8_t *content, size_t content_len, uint8_t *out, size_t out_len);
+struct partyid_done partyid_list(const void *scheme, size_t scheme_len, const void *content, size_t content_len, void *out, size_t out_len);
 
 /* ---- Many lines at once */
 
 /* The answer to one line, without its newline: the four bytes of the scheme, a space, the two digits of the term, a space, the content. Content
    beyond 1,025 bytes is not read. */
-struct partyid_answer partyid_answer_line(const uint8_t *line, size_t line_len);
+struct partyid_answer partyid_answer_line(const void *line, size_t line_len);
 
 /* The answers to the lines of a text, four numbers for each line as in struct partyid_answer, for as many lines as the area has
    room: out_len is its size in numbers, and below PARTYID_ANSWER_NUMBERS no line is answered. Numbers after the last answer stay. Where used is
    less than text_len, call again with the text from there. The last line needs no newline: cut a longer text behind a newline, or
    the line that is cut is answered in two halves. */
-struct partyid_batch partyid_answer_lines(const uint8_t *text, size_t text_len, uint32_t *out, size_t out_len);
+struct partyid_batch partyid_answer_lines(const void *text, size_t text_len, uint32_t *out, size_t out_len);
+
+/* The same into an array of answers: out_len is how many it has room for. */
+static inline struct partyid_batch partyid_check_lines(const void *text, size_t text_len, struct partyid_answer *out, size_t out_len)
+{
+    return partyid_answer_lines(text, text_len, out_len == 0 ? NULL : &out->verdict, out_len * PARTYID_ANSWER_NUMBERS);
+}
 
 /* ---- Text */
 
 /* The code point that begins at a byte of a content, by RFC 3629; refused past the end. */
-struct partyid_point partyid_decode(const uint8_t *content, size_t content_len, size_t at);
+struct partyid_point partyid_decode(const void *content, size_t content_len, size_t at);
 
 /* Whether a code point is one of the 25 white ones. */
 bool partyid_is_white(uint32_t c);
 
 /* White at both ends dropped, each inner run of it one space. The text stands at the start of an area of exactly PARTYID_AREA bytes,
    zeros after it; a refusal (LONG, UTF8) leaves it all zeros. The area must not be null. */
-struct partyid_text partyid_normalize_space(const uint8_t *content, size_t content_len, uint8_t *area);
+struct partyid_text partyid_normalize_space(const void *content, size_t content_len, void *area);
 
 /* Every white point removed; the area as above. */
-struct partyid_text partyid_strip(const uint8_t *content, size_t content_len, uint8_t *area);
+struct partyid_text partyid_strip(const void *content, size_t content_len, void *area);
+
+/* ---- Words. These decide nothing, and are not proved. A number that stands for nothing is "unknown". */
+
+/* The version of the library that is linked, as PARTYID_VERSION. */
+const char *partyid_version(void);
+
+const char *partyid_verdict_words(uint32_t verdict);
+const char *partyid_severity_words(uint32_t severity);
+const char *partyid_reason_words(uint32_t reason);
 
 #ifdef __cplusplus
 }

@@ -37,9 +37,7 @@ fn main() {
 
 fn compare(rounds: usize, instructions: bool) {
     table::print(&run::at_every_place(rounds), rounds);
-    if !programs::ARE_TIMED {
-        println!("\nThe line program is not timed: it runs under an emulator here.");
-    } else if instructions {
+    if instructions {
         programs::print_instructions();
     }
 }

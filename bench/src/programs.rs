@@ -12,9 +12,6 @@ use crate::predicates::plain;
 use crate::row::{Function, Row};
 use crate::some_lines::some_lines;
 
-/// `checklines` is compiled for x86-64 alone: elsewhere it runs under an emulator, whose time would say nothing.
-pub const ARE_TIMED: bool = cfg!(target_arch = "x86_64");
-
 /// How many lines are read in a round: enough that starting a program is a small part.
 pub const LINES: usize = 500_000;
 
@@ -22,7 +19,7 @@ const FILE: &str = "target/bench/lines.txt";
 
 /// The three line programs, and one that only counts the lines.
 const COMMANDS: [&[&str]; 4] = [
-    &["target/bin/checklines"],
+    &["target/native/checklines"],
     &[BENCH, line_program::TUNED],
     &[BENCH, line_program::FORMATTED],
     &["wc", "-l"],

@@ -18,16 +18,15 @@ pub fn here(rounds: usize) {
     let input = some_lines::some_lines(programs::LINES);
     let mut cases = cases(&input);
     assert_eq!(functions_of(&cases), functions_of_header());
-    let mut programs = programs::ARE_TIMED.then(|| Programs::new(&input));
+    let mut programs = Programs::new(&input);
     for round in 0..rounds {
         show(round, rounds);
         cases.iter_mut().for_each(|case| case.round(round));
-        programs.iter_mut().for_each(|all| all.round(round));
+        programs.round(round);
     }
     show(rounds, rounds);
     println!("{}", place::offset());
-    let of_programs = programs.iter().flat_map(Programs::rows);
-    let rows = cases.iter().map(Case::row).chain(of_programs);
+    let rows = cases.iter().map(Case::row).chain(programs.rows());
     rows.for_each(|row| println!("{}", row.line()));
 }
 
@@ -70,10 +69,11 @@ fn functions_of(cases: &[Case]) -> BTreeSet<&'static str> {
     cases.iter().map(|case| case.function.name).collect()
 }
 
-/// The functions that the header declares.
+/// The functions that the header declares, without those that only have words.
 fn functions_of_header() -> BTreeSet<&'static str> {
     let header = include_str!("../../include/partyid.h");
     let declarations = header.lines().filter(|line| line.ends_with(");"));
+    let declarations = declarations.filter(|line| !line.starts_with("const char *"));
     let names = declarations.filter_map(|line| {
         let (before, _) = line.split_once('(')?;
         before.rsplit_once("partyid_").map(|(_, name)| name)

@@ -1,17 +1,18 @@
-"""Copies of a header, each altered in one place. A comparison that agrees with one of them does not compare that place."""
+"""Copies of the header and of the words' source, each altered in one place. A comparison that agrees with one of them does not compare that place."""
 from __future__ import annotations
 
 import re
 from collections.abc import Callable, Iterator
 
-from .header import CONSTANT, ENUM, FUNCTION, STRUCT, items, without_comments
+from .header import CONSTANT, ENUM, FUNCTION, INLINE, STRUCT, items, without_comments
 
 OTHER_TYPE = {
     "uint32_t": "uint64_t",
     "size_t": "uint32_t",
-    "const uint8_t *": "uint8_t *",
-    "uint8_t *": "const uint8_t *",
+    "const void *": "void *",
+    "void *": "const void *",
     "uint32_t *": "uint64_t *",
+    "struct partyid_answer *": "struct partyid_done *",
     "uint8_t": "uint16_t",
 }
 
@@ -27,7 +28,7 @@ def renamed(item: str) -> str:
 
 
 def retyped(item: str) -> str:
-    found = re.search(r"(?:const )?\w+(?: \*|(?= ))", item)
+    found = re.search(r"(?:const )?(?:struct )?\w+(?: \*|(?= ))", item)
     return item.replace(found[0], OTHER_TYPE[found[0]], 1) if found and found[0] in OTHER_TYPE else item
 
 
@@ -60,10 +61,18 @@ def declarations(text: str, pattern: re.Pattern[str], name: int) -> Iterator[str
 
 
 def results(text: str) -> Iterator[str]:
-    for match in FUNCTION.finditer(text):
-        for other in ("struct partyid_answer", "struct partyid_done", "bool", "uint32_t"):
+    for match in (*FUNCTION.finditer(text), *INLINE.finditer(text)):
+        for other in ("struct partyid_answer ", "struct partyid_done ", "bool ", "uint32_t ", "const char *"):
             if other != match[1]:
                 yield text[: match.start(1)] + other + text[match.end(1) :]
+
+
+def returned(text: str) -> Iterator[str]:
+    """Each word of what an inline function returns, another one."""
+    for match in INLINE.finditer(text):
+        for word in re.finditer(r"\w+|[?:&*]|==|->", match[4]):
+            at = match.start(4) + word.start()
+            yield text[:at] + f"other({word[0]})" + text[at + len(word[0]) :]
 
 
 def values(text: str) -> Iterator[str]:
@@ -80,7 +89,25 @@ def strangers(text: str) -> Iterator[str]:
     """Things that a header may have and this one has not."""
     for line in ("typedef int partyid_kind;", "extern int partyid_state;", "#define PARTYID_OTHER 1", "#include <stdio.h>", "union partyid_any { int n; };"):
         yield text.replace("\nenum partyid_verdict", f"\n{line}\nenum partyid_verdict")
-    yield text.replace(", uint8_t *area", ", ...")
+    yield text.replace(", void *area", ", ...")
+    yield text.replace("(void)", "()")
+    yield text.replace("static inline ", "")
+
+
+WORDS = re.compile(r"(?<=\] = )\"[^\"]*\"")
+
+
+def altered_words(source: str) -> Iterator[str]:
+    """Each word another one, left out, and exchanged with the next; numbers that stand for nothing called something else; another version."""
+    found = list(WORDS.finditer(source))
+    for match in found:
+        yield source[: match.start()] + '"other words"' + source[match.end() :]
+        yield source[: match.start()] + "0" + source[match.end() :]
+    for one, next_one in zip(found, found[1:]):
+        yield source[: one.start()] + next_one[0] + source[one.end() : next_one.start()] + one[0] + source[next_one.end() :]
+    yield source.replace('"unknown"', '"no reason"')
+    yield source.replace("number < count", "number < count - 1")
+    yield source.replace("return PARTYID_VERSION;", 'return "0.0.0";')
 
 
 def altered_headers(source: str) -> Iterator[str]:
@@ -88,8 +115,10 @@ def altered_headers(source: str) -> Iterator[str]:
     yield from bodies(text, ENUM, 2, ",", [renumbered, renamed])
     yield from bodies(text, STRUCT, 2, ";", [renumbered, renamed, retyped])
     yield from bodies(text, FUNCTION, 3, ",", [renamed, retyped])
+    yield from bodies(text, INLINE, 3, ",", [renamed, retyped])
     yield from results(text)
+    yield from returned(text)
     yield from values(text)
     yield from strangers(text)
-    for pattern, name in ((ENUM, 1), (STRUCT, 1), (FUNCTION, 2), (CONSTANT, 1)):
+    for pattern, name in ((ENUM, 1), (STRUCT, 1), (FUNCTION, 2), (INLINE, 2), (CONSTANT, 1)):
         yield from declarations(text, pattern, name)

@@ -13,6 +13,8 @@ NUMBERED = {
     "reason": ("answer/specs/Numbers.antt", "reasonNumber"),
     "withdrawal": ("partyid/specs/Plain.antt", "plainCode"),
 }
+# the enums of an answer, which have words for a reader
+WORDED = ["verdict", "severity", "reason"]
 # a case = a number; a case with its argument = the record's maker with the number
 EQUATION = re.compile(r"\(?(\w+)(?: \w+\))? = (?:fourBytes )?(\d+)(?: .*)?")
 
@@ -20,7 +22,7 @@ STRUCT = re.compile(r"(#\[repr\(C\)\]\n)?pub struct (\w+) \{([^}]*)\}")
 FUNCTION = re.compile(r"#\[no_mangle\]\s+pub extern \"C\" fn (\w+)\(([^)]*)\)\s*->\s*(\w+)")
 
 SCALARS = {"u8": "uint8_t", "u32": "uint32_t", "usize": "size_t", "bool": "bool"}
-SLICES = {"&[u8]": "const uint8_t *", "&mut [u8]": "uint8_t *", "&mut [u32]": "uint32_t *"}
+SLICES = {"&[u8]": "const void *", "&mut [u8]": "void *", "&mut [u32]": "uint32_t *"}
 
 
 def equations(text: str, name: str) -> list[tuple[str, int]]:
@@ -114,7 +116,7 @@ def parameter(name: str, kind: str, area_bytes: str) -> list[Typed]:
     if kind in SLICES:
         return [(SLICES[kind], name), ("size_t", f"{name}_len")]
     if kind == f"&mut [u8; {area_bytes}]":
-        return [("uint8_t *", name)]
+        return [("void *", name)]
     return [(scalar(kind), name)]
 
 
@@ -143,7 +145,30 @@ def read_functions(text: str, structs: dict[str, list[Typed]], area_bytes: str) 
     return found
 
 
-def read_definitions(crates: pathlib.Path) -> Interface:
+# ---- What the header has beside the proved functions
+
+
+def word_functions(enums: list[str]) -> dict[str, Function]:
+    """The version, and the words for the numbers of each enum of an answer."""
+    words = {f"partyid_{enum}_words": Function("const char *", [("uint32_t", enum)]) for enum in enums}
+    return {"partyid_version": Function("const char *", []), **words}
+
+
+# the proved call for many lines, with an array of answers in the place of numbers
+INLINES = {
+    "partyid_check_lines": (
+        Function("struct partyid_batch", [("const void *", "text"), ("size_t", "text_len"), ("struct partyid_answer *", "out"), ("size_t", "out_len")]),
+        "partyid_answer_lines(text, text_len, out_len == 0 ? NULL : &out->verdict, out_len * PARTYID_ANSWER_NUMBERS)",
+    )
+}
+
+
+def version_constants(version: str) -> dict[str, str]:
+    parts = dict(zip(("MAJOR", "MINOR", "PATCH"), version.split(".")))
+    return {"PARTYID_VERSION": f'"{version}"', **{f"PARTYID_VERSION_{name}": number for name, number in parts.items()}}
+
+
+def read_definitions(crates: pathlib.Path, version: str) -> Interface:
     text = "".join(path.read_text() for path in sorted((crates / "partyid/src").glob("*.rt")))
     structs = read_structs(re.sub(r"//.*", "", text))
     return Interface(
@@ -153,5 +178,7 @@ def read_definitions(crates: pathlib.Path) -> Interface:
         },
         structs=structs,
         functions=read_functions(re.sub(r"//.*", "", text), structs, area(crates)),
-        constants=constants(crates, structs),
+        words=word_functions(WORDED),
+        inlines=INLINES,
+        constants={**version_constants(version), **constants(crates, structs)},
     )

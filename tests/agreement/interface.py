@@ -24,7 +24,9 @@ class Interface:
 
     enums: dict[str, list[tuple[str, int]]]
     structs: dict[str, list[Typed]]
-    functions: dict[str, Function]
+    functions: dict[str, Function]  # the proved ones
+    words: dict[str, Function]  # those that decide nothing
+    inlines: dict[str, tuple[Function, str]]  # with what they return
     constants: dict[str, str]
 
 
@@ -51,6 +53,8 @@ def contrast(wanted: object, found: object) -> str:
 
 
 def shown(entry: object) -> str:
+    if isinstance(entry, tuple):
+        return f"{shown(entry[0])} returning {entry[1]}"
     if isinstance(entry, Function):
         return f"{entry.result} ({shown(entry.parameters)})"
     if isinstance(entry, list):
@@ -62,6 +66,7 @@ def disagreements(wanted: Interface, found: Interface) -> list[str]:
     return (
         differing("enum", wanted.enums, found.enums)
         + differing("struct", wanted.structs, found.structs)
-        + differing("function", wanted.functions, found.functions)
+        + differing("function", {**wanted.functions, **wanted.words}, {**found.functions, **found.words})
+        + differing("inline function", wanted.inlines, found.inlines)
         + differing("constant", wanted.constants, found.constants)
     )

@@ -14,8 +14,8 @@ TYPES = {
     ctypes.c_size_t: "size_t",
     ctypes.c_bool: "bool",
     ctypes.c_uint8 * 4: "uint8_t[4]",
-    ctypes.c_void_p: "const uint8_t *",  # an address, so that a text can be handed over from any byte on
-    ctypes.POINTER(ctypes.c_uint8): "uint8_t *",
+    ctypes.c_void_p: "const void *",  # an address, so that a text can be handed over from any byte on
+    ctypes.POINTER(ctypes.c_uint8): "void *",
     ctypes.POINTER(ctypes.c_uint32): "uint32_t *",
 }
 
@@ -57,8 +57,9 @@ def read_enums(module: types.ModuleType, cases: dict[str, Cases]) -> dict[str, C
 
 
 def read_constants(module: types.ModuleType, wanted: dict[str, str]) -> dict[str, str]:
-    """PARTYID_AREA is AREA there. A macro has no namesake."""
-    return {name: str(getattr(module, name.removeprefix("PARTYID_"), "missing")) for name in wanted if "(" not in name}
+    """PARTYID_AREA is AREA there. A macro has no namesake, and the version is no constant of the library."""
+    names = [name for name in wanted if "(" not in name and "VERSION" not in name]
+    return {name: str(getattr(module, name.removeprefix("PARTYID_"), "missing")) for name in names}
 
 
 def python_disagreements(path: pathlib.Path, wanted: Interface, cases: dict[str, Cases]) -> list[str]:

@@ -13,10 +13,10 @@ TYPES = {
     "usize": "size_t",
     "bool": "bool",
     "[u8; 4]": "uint8_t[4]",
-    "*const u8": "const uint8_t *",
-    "*mut u8": "uint8_t *",
+    "*const u8": "const void *",
+    "*mut u8": "void *",
     "*mut u32": "uint32_t *",
-    "*mut [u8; AREA]": "uint8_t *",
+    "*mut [u8; AREA]": "void *",
 }
 
 

@@ -2,7 +2,7 @@
 #include "field.h"
 
 /* A check that takes a content and nothing else. */
-typedef struct partyid_answer content_check(const uint8_t *content, size_t content_len);
+typedef struct partyid_answer content_check(const void *content, size_t content_len);
 
 static void account(content_check *check, struct bytes content, struct partyid_answer expected)
 {

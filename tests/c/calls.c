@@ -11,5 +11,6 @@ int main(void)
     test_listing();
     test_content();
     test_lines();
+    test_words();
     return verdict_of_checks();
 }

@@ -115,7 +115,7 @@ static void white_among_all(void)
 
 /* ---- Texts */
 
-typedef struct partyid_text text_call(const uint8_t *content, size_t content_len, uint8_t *area);
+typedef struct partyid_text text_call(const void *content, size_t content_len, void *area);
 
 /* The text, and zeros after it up to the area's end. */
 static struct bytes whole_area(struct bytes text)

@@ -96,13 +96,23 @@ static struct batch one_by_one(struct bytes text, size_t room)
     return batch;
 }
 
+/* By numbers, or by answers where the room is one of whole answers. */
+static struct partyid_batch batch_of(struct block text, struct area area, size_t room, bool by_answers)
+{
+    if (by_answers) {
+        return partyid_check_lines(text.at, text.len, (struct partyid_answer *)(void *)area.at, room / PARTYID_ANSWER_NUMBERS);
+    }
+    return partyid_answer_lines(text.at, text.len, (uint32_t *)(void *)area.at, room);
+}
+
 static void lines_in(enum area_kind kind, struct bytes text, size_t room, struct batch expected)
 {
     struct bytes written = {(const uint8_t *)expected.numbers, expected.says.count * PARTYID_ANSWER_NUMBERS * sizeof(uint32_t)};
-    for (int way = 0; way < ways(text); way += 1) {
-        struct block lent = lend(text, way == 1);
+    int kinds = room % PARTYID_ANSWER_NUMBERS == 0 ? 2 : 1;
+    for (int way = 0; way < ways(text) * kinds; way += 1) {
+        struct block lent = lend(text, way / kinds == 1);
         struct area area = new_area(kind, room * sizeof(uint32_t));
-        struct partyid_batch found = partyid_answer_lines(lent.at, lent.len, (uint32_t *)(void *)area.at, room);
+        struct partyid_batch found = batch_of(lent, area, room, way % kinds == 1);
         same_number("lines", expected.says.count, found.count);
         same_number("bytes used", expected.says.used, found.used);
         end_area(area, written);
@@ -178,6 +188,17 @@ static void called_again(void)
     same_number("bytes used in several calls", text.len, from);
 }
 
+/* A literal and an array of answers, as they are. */
+static void without_casts(void)
+{
+    struct partyid_answer answers[2];
+    struct partyid_batch found = partyid_check_lines("0088 34 71\n0088 34 17\n", 22, answers, 2);
+    AT_THIS_LINE;
+    same_number("lines", 2, found.count);
+    same_answer(refused(40, FATAL, CHECK), answers[0]);
+    same_answer(accepted(40, FATAL), answers[1]);
+}
+
 void test_lines(void)
 {
     heads();
@@ -186,4 +207,5 @@ void test_lines(void)
     example();
     texts_of_lines();
     called_again();
+    without_casts();
 }

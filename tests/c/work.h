@@ -5,8 +5,7 @@
 #include "field.h"
 
 /* Both take a scheme, a text and an area. */
-typedef struct partyid_done work(const uint8_t *scheme, size_t scheme_len, const uint8_t *text, size_t text_len, uint8_t *out,
-                                 size_t out_len);
+typedef struct partyid_done work(const void *scheme, size_t scheme_len, const void *text, size_t text_len, void *out, size_t out_len);
 
 struct job {
     work *call;

@@ -15,6 +15,7 @@ use core::fmt;
 ///     answer.to_string(),
 ///     "refused by rule 40 (severity fatal): the form is met and the check figure is wrong"
 /// );
+/// assert_eq!(check("0088", 34, "17").to_string(), "accepted by rule 40");
 /// assert_eq!(check("0060", 34, "x").to_string(), "no rule");
 /// ```
 #[derive(Clone, Copy, Debug, PartialEq, Eq, Hash)]
@@ -50,15 +51,19 @@ impl Answer {
     }
 }
 
+/// In words. How grave a refusal would be is told of refusals alone.
 impl fmt::Display for Answer {
     fn fmt(&self, f: &mut fmt::Formatter<'_>) -> fmt::Result {
         write!(f, "{}", self.verdict)?;
         if self.rule != 0 {
-            write!(f, " by rule {} (severity {})", self.rule, self.severity)?;
+            write!(f, " by rule {}", self.rule)?;
         }
-        if self.reason != Reason::NoReason {
-            write!(f, ": {}", self.reason)?;
+        if self.verdict != Verdict::Refused {
+            return Ok(());
         }
-        Ok(())
+        if self.severity != Severity::NoSeverity {
+            write!(f, " (severity {})", self.severity)?;
+        }
+        write!(f, ": {}", self.reason)
     }
 }

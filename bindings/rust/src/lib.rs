@@ -51,13 +51,13 @@ pub use check::{check, eas_value, is_valid_creditor_identifier, is_valid_iban_ch
 pub use complete::complete;
 pub use corrections::{Corrections, Entries, LIST_DIGITS, corrections};
 pub use lines::{AnswerLines, answer_line, answer_lines};
-pub use points::{NotUtf8, Point, Points, decode, is_white, points};
+pub use points::{Code, NotUtf8, Point, Points, decode, is_white, points};
 pub use raw::AREA;
 pub use reason::Reason;
 pub use severity::Severity;
 pub use text::{Text, normalize_space, strip};
 pub use verdict::Verdict;
-pub use withdrawn::{Withdrawal, withdrawn};
+pub use withdrawn::{Scheme, Withdrawal, withdrawn};
 
 #[cfg(doctest)]
 #[doc = include_str!("../README.md")]

@@ -33,17 +33,42 @@ pub fn decode(content: impl AsRef<[u8]>, at: usize) -> Option<Point> {
     }
 }
 
-/// Whether a code point, a `char` or any number, is one of the 25 white ones.
+/// Whether a code point, a `char` or any `u32`, is one of the 25 white ones.
 ///
 /// ```
 /// use partyid::is_white;
 ///
 /// assert!(is_white('\u{a0}'));
+/// assert!(is_white(0xa0));
 /// assert!(!is_white('\u{feff}'));
 /// assert!(!is_white(u32::MAX));
 /// ```
-pub fn is_white(code: impl Into<u32>) -> bool {
-    raw::is_white(code.into())
+pub fn is_white(code: impl Code) -> bool {
+    raw::is_white(code.number())
+}
+
+/// What [`is_white`] takes: a `char` or a `u32`. No other number is one, so that a plain literal is a `u32`.
+pub trait Code: sealed::Sealed {
+    /// The code point's number.
+    fn number(self) -> u32;
+}
+
+impl Code for char {
+    fn number(self) -> u32 {
+        self.into()
+    }
+}
+
+impl Code for u32 {
+    fn number(self) -> u32 {
+        self
+    }
+}
+
+mod sealed {
+    pub trait Sealed {}
+    impl Sealed for char {}
+    impl Sealed for u32 {}
 }
 
 /// The code points of a content, one after another. What is not well-formed ends them with an error.

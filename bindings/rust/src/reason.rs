@@ -1,7 +1,19 @@
 //! Why something is refused.
 
 numbered! {
-    /// Why something is refused. As an error it is never [`Reason::NoReason`].
+    /// Why something is refused. As an error it is never [`Reason::NoReason`]. Reasons are ordered by their numbers.
+    ///
+    /// ```
+    /// use partyid::{Reason, check};
+    /// use std::collections::BTreeMap;
+    ///
+    /// let mut counts = BTreeMap::new();
+    /// for content in ["17", "71", "x", "72"] {
+    ///     *counts.entry(check("0088", 34, content).reason).or_insert(0) += 1;
+    /// }
+    /// assert!(counts.into_iter().eq([(Reason::NoReason, 1), (Reason::Form, 1), (Reason::Check, 2)]));
+    /// ```
+    #[derive(PartialOrd, Ord)]
     Reason called "reason" {
         /// Not refused, or the work is done.
         NoReason = 0 "no reason",

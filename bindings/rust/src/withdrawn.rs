@@ -12,7 +12,42 @@ pub enum Withdrawal {
     /// Withdrawn, and nothing took its place.
     NoSuccessor,
     /// Withdrawn, with the code that took its place.
-    Successor([u8; 4]),
+    Successor(Scheme),
+}
+
+/// The four characters of a scheme code.
+#[derive(Clone, Copy, PartialEq, Eq, Hash)]
+pub struct Scheme([u8; 4]);
+
+impl Scheme {
+    /// The code.
+    pub fn as_str(&self) -> &str {
+        contract::text(&self.0)
+    }
+}
+
+impl AsRef<str> for Scheme {
+    fn as_ref(&self) -> &str {
+        self.as_str()
+    }
+}
+
+impl AsRef<[u8]> for Scheme {
+    fn as_ref(&self) -> &[u8] {
+        &self.0
+    }
+}
+
+impl fmt::Display for Scheme {
+    fn fmt(&self, f: &mut fmt::Formatter<'_>) -> fmt::Result {
+        f.pad(self.as_str())
+    }
+}
+
+impl fmt::Debug for Scheme {
+    fn fmt(&self, f: &mut fmt::Formatter<'_>) -> fmt::Result {
+        fmt::Debug::fmt(self.as_str(), f)
+    }
 }
 
 impl Withdrawal {
@@ -28,7 +63,7 @@ impl Withdrawal {
     /// The code that took the withdrawn one's place, if there is one.
     pub fn successor(&self) -> Option<&str> {
         match self {
-            Withdrawal::Successor(code) => Some(contract::text(code)),
+            Withdrawal::Successor(code) => Some(code.as_str()),
             _ => None,
         }
     }
@@ -39,9 +74,7 @@ impl fmt::Display for Withdrawal {
         match self {
             Withdrawal::NotWithdrawn => write!(f, "not withdrawn"),
             Withdrawal::NoSuccessor => write!(f, "withdrawn with no successor"),
-            Withdrawal::Successor(code) => {
-                write!(f, "withdrawn, its successor is {}", contract::text(code))
-            }
+            Withdrawal::Successor(code) => write!(f, "withdrawn, its successor is {code}"),
         }
     }
 }
@@ -52,6 +85,9 @@ impl fmt::Display for Withdrawal {
 /// use partyid::{Withdrawal, withdrawn};
 ///
 /// assert_eq!(withdrawn("9901").successor(), Some("0096"));
+/// if let Withdrawal::Successor(code) = withdrawn("9901") {
+///     assert_eq!(code.to_string(), "0096");
+/// }
 /// assert_eq!(withdrawn("9905"), Withdrawal::NoSuccessor);
 /// assert_eq!(withdrawn("0088"), Withdrawal::NotWithdrawn);
 /// ```
@@ -63,7 +99,7 @@ fn of_library(code: raw::Code) -> Withdrawal {
     match code.answer {
         0 => Withdrawal::NotWithdrawn,
         1 => Withdrawal::NoSuccessor,
-        2 => Withdrawal::Successor(code.successor),
+        2 => Withdrawal::Successor(Scheme(code.successor)),
         other => contract::broken("withdrawal", &other),
     }
 }

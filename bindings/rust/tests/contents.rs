@@ -57,11 +57,8 @@ fn contents_of_many_types_are_taken() {
 #[test]
 fn an_answer_is_told_in_words() {
     let told = |scheme, content| check(scheme, 34, content).to_string();
-    assert_eq!(told("0088", "17"), "accepted by rule 40 (severity fatal)");
-    assert_eq!(
-        told("0211", "It1"),
-        "let through unread by rule 47 (severity warning)"
-    );
+    assert_eq!(told("0088", "17"), "accepted by rule 40");
+    assert_eq!(told("0211", "It1"), "let through unread by rule 47");
     assert_eq!(
         told("9944", "NL"),
         "refused by rule 561 (severity warning): the form is not met"
@@ -79,6 +76,29 @@ fn an_answer_is_told_in_words() {
         partyid::withdrawn("9901").to_string(),
         "withdrawn, its successor is 0096"
     );
+}
+
+#[test]
+fn a_successor_is_a_text() {
+    let found = partyid::withdrawn("9901");
+    assert_eq!(format!("{found:?}"), r#"Successor("0096")"#);
+    let partyid::Withdrawal::Successor(code) = found else {
+        panic!("{found}")
+    };
+    assert_eq!(format!("{code}|{code:>6}|{code:?}"), "0096|  0096|\"0096\"");
+    assert_eq!(check(code, 34, "1234567890").verdict, Verdict::Accepted);
+}
+
+#[test]
+fn white_points_are_asked_for_by_number_and_by_char() {
+    assert!(partyid::is_white(0xa0) && partyid::is_white('\u{a0}') && partyid::is_white(32));
+    assert!(!partyid::is_white(0x200b) && !partyid::is_white(0xffff_ffff));
+}
+
+#[test]
+fn reasons_are_ordered_by_number() {
+    assert!(Reason::ALL.is_sorted());
+    assert!(Reason::Form < Reason::Check && Reason::Line > Reason::Term);
 }
 
 #[test]
