@@ -11,11 +11,10 @@ use borrow.Author.Tests.{leb-true, leb-false, ltb-true, ltb-false}
 use Rattle.ascii.specs.Area.{joined}
 use Rattle.answer.specs.declared.record.Answer.{Answer}
 use Rattle.answer.specs.Answers.{answerNumbers}
-use Rattle.lines.specs.Line.{lineBytes, answerOf}
-use Rattle.lines.specs.Text.{numbersText, field, numeral, answerText, lineText, answerRoom}
+use Rattle.lines.specs.Line.{lineBytes, answerOf, lineNumbers}
+use Rattle.lines.specs.Text.{numbersText, field, numeral, lineText, answerRoom}
 use Rattle.lines.specs.Stream.{split, linesOf, inTurn, answersTo, answers}
-use Rattle.lines.specs.Window.{usedOf, writtenOf, clipped, keptOf, lastOf}
-use Rattle.lines.specs.Turn.{Run, over, next}
+use Rattle.lines.specs.Turn.{usedOf, writtenOf, clipped, keptOf, lastOf, Run, over, next}
 use Rattle.lines.specs.Inner.{upto}
 use Rattle.lines.proofs.Heads.{answer-cut}
 use Rattle.lines.proofs.Splits.{by, Open, upto-le, split-line, open-take, fronted, lines-open, fronted-first, fronted-alone}
@@ -30,9 +29,9 @@ take-cut (suc n) [] r = refl
 take-cut (suc n) (x ∷ p) r = ap (λ (l : List ℕ). x ∷ l) (take-cut n p r)
 
 pub line-cut : (p r : List ℕ) → lineText (take lineBytes p ++ r) ≡ lineText (p ++ r)
-unfolding lineText
+unfolding lineText lineNumbers
 line-cut p r =
-    ap answerText
+    ap (λ (a : Answer). numbersText (answerNumbers a))
     (sym (answer-cut (take lineBytes p ++ r)) ∙ ap answerOf (take-cut lineBytes p r) ∙ answer-cut (p ++ r))
 
 line-clip : (p : List ℕ) → lineText (take lineBytes p) ≡ lineText p
@@ -132,13 +131,9 @@ continue room s t =
 some : (d t : List ℕ) (b : ℕ) → 0 < length ((d ++ b ∷ []) ++ t)
 some d t b = omega (arith, length-append (d ++ b ∷ []) t, length-append d (b ∷ []))
 
-answer-some : (a : Answer) → 0 < length (answerText a)
-unfolding answerText answerNumbers numbersText field
-answer-some a = some (numeral _) _ _
-
 text-some : (l : List ℕ) → 0 < length (lineText l)
-unfolding lineText
-text-some l = answer-some (answerOf l)
+unfolding lineText lineNumbers answerNumbers numbersText field
+text-some l = some (numeral _) _ _
 
 -- a step that writes nothing, where there is room, has met no newline
 pub nothing-open : (room : ℕ) (s : List ℕ) → answerRoom ≤ room → writtenOf room s ≡ [] → Open s

@@ -12,8 +12,7 @@ use Rattle.ascii.specs.Area.{Put}
 use Rattle.ascii.specs.Pick.{pick}
 use Rattle.ascii.proofs.Tests.{and-true}
 use Rattle.ascii.proofs.Area.{put-nil, put-front}
-use Rattle.lines.specs.Window.{writtenOf, keptOf, lastOf}
-use Rattle.lines.specs.Turn.{isOver, turnWrites, TurnRight}
+use Rattle.lines.specs.Turn.{writtenOf, keptOf, lastOf, isOver, turnWrites, TurnRight}
 use Rattle.lines.specs.Inner.{StepRight}
 use Rattle.lines.proofs.Heads.{take-least}
 

@@ -10,7 +10,7 @@ use Rattle.ascii.specs.Class.{isDigit}
 use Rattle.answer.specs.declared.record.Answer.{Answer}
 use Rattle.answer.specs.declared.reason.Reason.the-variants.{Line}
 use Rattle.answer.specs.declared.severity.Severity.the-variants.{NoSeverity}
-use Rattle.answer.specs.Answers.{refused}
+use Rattle.answer.specs.Answers.{refused, answerNumbers}
 use Rattle.rules.specs.Check.{checkOf}
 
 abbrev pub space : ℕ
@@ -39,3 +39,6 @@ lineBytes = 1033
 
 unfoldable pub answerOf : List ℕ → Answer
 answerOf s = pick (headOk s) (checkOf (take 4 s) (termOf s) (lineContent s)) (refused 0 NoSeverity Line)
+
+unfoldable pub lineNumbers : List ℕ → List ℕ
+lineNumbers s = answerNumbers (answerOf s)

@@ -1,6 +1,7 @@
--- `lines::batch::put_numbers` stores the numbers of an answer.
+-- `lines::batch::put_numbers` stores the numbers of a line's answer.
 use native.Mathlib.Omega.{arith}
 use lib.ListN.{length-set}
+use Rattle.lines.specs.Line.{lineNumbers}
 use Rattle.lines.proofs.Batches.{put-numbers}
 use borrow.Author.Needs.{needs}
 use Rattle.lines.proofs.batch.put_numbers.Statement.{statement}
@@ -10,6 +11,10 @@ use Rattle.lines.proofs.batch.put_numbers.Lts as lts
 use Rattle.answer.proofs.reason.Reason.number.Reads as reason-Reason-number-reads
 use Rattle.answer.proofs.severity.Severity.number.Reads as severity-Severity-number-reads
 use Rattle.answer.proofs.verdict.Verdict.number.Reads as verdict-Verdict-number-reads
+use Rattle.lines.proofs.line.answer_line.Reads as answer-line-reads
+
+answer-line-requires : tie.Need-answer-line-requires
+answer-line-requires c κs = search needs
 
 number-requires : tie.Need-number-requires
 number-requires c κs = search needs
@@ -60,12 +65,17 @@ same-length : tie.Need-same-length
 same-length c = search needs
 
 returns : tie.Need-returns
-returns c = put-numbers (c .before .before .before .before .args .a) (c .before .before .before .before .args .out .now) (c .before .before .before .before .args .at) (c .before .before .number .result) (c .before .number2 .result) (c .number3 .result) (omega arith) (c .before .before .number .ensures) (c .before .number2 .ensures) (c .number3 .ensures)
+unfolding lineNumbers
+returns c =
+    let a = c .before .before .before .answer-line in
+    rw (← a .ensures)
+    (put-numbers (a .result) (c .before .before .before .before .before .before .args .out .now) (c .before .before .before .before .before .before .args .at) (c .before .before .number .result) (c .before .number2 .result) (c .number3 .result) (omega arith) (c .before .before .number .ensures) (c .before .number2 .ensures) (c .number3 .ensures))
 
 pub put-numbers-spec : {M : Type 1} → statement M
 put-numbers-spec =
     tie.close
     (tie.spec
+    answer-line-requires
     number-requires
     number-requires-2
     number-requires-3

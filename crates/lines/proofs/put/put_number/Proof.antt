@@ -7,12 +7,10 @@ use Rattle.lines.proofs.put.put_number.Statement.{statement}
 use Rattle.lines.proofs.put.put_number.Tie as tie
 use Rattle.lines.proofs.put.put_number.Reads as reads
 use Rattle.lines.proofs.put.put_number.Lts as lts
+use Rattle.lines.proofs.put.digit.Reads as digit-reads
 
-add-out : tie.Need-add-out
-add-out c = search needs
-
-cast-out : tie.Need-cast-out
-cast-out c = search needs
+digit-requires : tie.Need-digit-requires
+digit-requires c κs = search needs
 
 slice-write-out : tie.Need-slice-write-out
 slice-write-out c = search needs
@@ -24,22 +22,16 @@ same-length : tie.Need-same-length
 same-length c = search needs
 
 returns : tie.Need-returns
-returns c = put-one (c .before .args .out .now) (c .before .args .at) (c .before .args .n) (omega arith) (c .if1 .taken)
+returns c = rw (c .digit .ensures) (put-one (c .before .before .before .args .out .now) (c .before .before .before .args .at) (c .before .before .before .args .n) (omega arith) (c .before .if1 .taken))
 
-add-low : tie.Need-add-low
-add-low c = search needs
-
-cast-low : tie.Need-cast-low
-cast-low c = search needs
+digit-requires-2 : tie.Need-digit-requires-2
+digit-requires-2 c κs = search needs
 
 add-k : tie.Need-add-k
 add-k c = search needs
 
-add-out-2 : tie.Need-add-out-2
-add-out-2 c = search needs
-
-cast-out-2 : tie.Need-cast-out-2
-cast-out-2 c = search needs
+digit-requires-3 : tie.Need-digit-requires-3
+digit-requires-3 c κs = search needs
 
 slice-write-out-2 : tie.Need-slice-write-out-2
 slice-write-out-2 c = search needs
@@ -54,25 +46,19 @@ same-length-2 : tie.Need-same-length-2
 same-length-2 c = search needs
 
 returns-2 : tie.Need-returns-2
-returns-2 c = put-two (c .before .before .args .out .now) (c .before .before .args .at) (c .before .before .args .n) (omega arith) (c .before .if1 .left) (c .if2 .taken)
+returns-2 c = rw (c .digit3 .ensures, c .before .before .digit2 .ensures) (put-two (c .before .before .before .before .before .args .out .now) (c .before .before .before .before .before .args .at) (c .before .before .before .before .before .args .n) (omega arith) (c .before .before .before .if1 .left) (c .before .if2 .taken))
 
 add-m : tie.Need-add-m
 add-m c = search needs
 
-add-out-3 : tie.Need-add-out-3
-add-out-3 c = search needs
-
-cast-out-3 : tie.Need-cast-out-3
-cast-out-3 c = search needs
+digit-requires-4 : tie.Need-digit-requires-4
+digit-requires-4 c κs = search needs
 
 slice-write-out-4 : tie.Need-slice-write-out-4
 slice-write-out-4 c = search needs
 
-add-out-4 : tie.Need-add-out-4
-add-out-4 c = search needs
-
-cast-out-4 : tie.Need-cast-out-4
-cast-out-4 c = search needs
+digit-requires-5 : tie.Need-digit-requires-5
+digit-requires-5 c κs = search needs
 
 slice-write-out-5 : tie.Need-slice-write-out-5
 slice-write-out-5 c = simp length-set (omega arith)
@@ -87,34 +73,29 @@ same-length-3 : tie.Need-same-length-3
 same-length-3 c = search needs
 
 returns-3 : tie.Need-returns-3
-returns-3 c = put-three (c .before .before .args .out .now) (c .before .before .args .at) (c .before .before .args .n) (omega arith) (c .before .if1 .left) (c .if2 .left) (omega arith)
+returns-3 c = rw (c .digit5 .ensures, c .before .digit4 .ensures, c .before .before .before .digit2 .ensures) (put-three (c .before .before .before .before .before .before .args .out .now) (c .before .before .before .before .before .before .args .at) (c .before .before .before .before .before .before .args .n) (omega arith) (c .before .before .before .before .if1 .left) (c .before .before .if2 .left) (omega arith))
 
 pub put-number-spec : {M : Type 1} → statement M
 put-number-spec =
     tie.close
     (tie.spec
-    add-out
-    cast-out
+    digit-requires
     slice-write-out
     add-result
     same-length
     returns
-    add-low
-    cast-low
+    digit-requires-2
     add-k
-    add-out-2
-    cast-out-2
+    digit-requires-3
     slice-write-out-2
     slice-write-out-3
     add-result-2
     same-length-2
     returns-2
     add-m
-    add-out-3
-    cast-out-3
+    digit-requires-4
     slice-write-out-4
-    add-out-4
-    cast-out-4
+    digit-requires-5
     slice-write-out-5
     slice-write-out-6
     add-result-3

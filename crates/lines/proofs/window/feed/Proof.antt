@@ -5,7 +5,7 @@ use native.Mathlib.Omega.{arith}
 use borrow.Author.Needs.{needs}
 use lib.ListN.{length, take, drop}
 use lib.Seq.{length-take-le}
-use Rattle.lines.specs.Window.{writtenOf, usedOf}
+use Rattle.lines.specs.Turn.{writtenOf, usedOf}
 use Rattle.lines.proofs.Splits.{open-end}
 use Rattle.lines.proofs.Feeding.{feeding-none, part-len}
 use Rattle.lines.proofs.Windows.{Fed, feeding-line, stops-full, stops-open, fed-right, part-open}
