@@ -33,7 +33,7 @@ termOf s = 10 * (getD s 5 0 - code "0") + (getD s 6 0 - code "0")
 unfoldable pub lineContent : List ℕ → List ℕ
 lineContent s = take 1025 (drop 8 s)
 
--- of a line, then, its head and these
+-- of a line its head and these
 abbrev pub lineBytes : ℕ
 lineBytes = 1033
 

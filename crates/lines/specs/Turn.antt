@@ -33,7 +33,7 @@ usedOf room s = extent (fitting room (ended s))
 unfoldable pub clipped : List ℕ → List ℕ
 clipped rest = pick (among newline rest) rest (take lineBytes rest)
 
--- what is kept for the next step
+-- what is kept for the next turn
 unfoldable pub keptOf : ℕ → List ℕ → List ℕ
 keptOf room s = clipped (drop (usedOf room s) s)
 

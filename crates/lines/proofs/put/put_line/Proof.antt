@@ -38,7 +38,7 @@ number-requires-3 : tie.Need-number-requires-3
 number-requires-3 c κs = search needs
 
 put-field-requires-4 : tie.Need-put-field-requires-4
-put-field-requires-4 c κs = (put-room 4 (c .before .before .before .before .put-field3 .ensures) (put-room 8 (c .before .before .before .before .before .before .before .before .before .put-field2 .ensures) (put-room 12 (c .before .before .before .before .before .before .before .before .before .before .before .before .before .put-field .ensures) (omega arith))), omega (arith, c .number3 .ensures, reason-small (c .before .before .before .before .before .before .before .before .before .before .before .before .before .before .before .before .answer-line .result .reason)))
+put-field-requires-4 c κs = (put-room 4 (c .before .before .before .before .put-field3 .ensures) (put-room 8 (c .before .before .before .before .before .before .before .before .before .put-field2 .ensures) (put-room 12 (c .before .before .before .before .before .before .before .before .before .before .before .before .before .put-field .ensures) (omega arith))), omega (arith, c .number3 .ensures, reason-small (c .before .before .before .before .before .before .before .before .before .before .before .before .before .before .before .before .answer-line .result .reason), severity-small (c .before .before .before .before .before .before .before .before .before .before .before .before .before .before .before .before .answer-line .result .severity)))
 
 same-length : tie.Need-same-length
 same-length c = search needs

@@ -1,8 +1,9 @@
 -- `lines::window::keep_len` says how much of a rest is kept.
 use mathlib.Core.Path.{sym, _∙_, ap}
 use native.Mathlib.Omega.{arith}
-use lib.ListN.{length, length-take}
+use lib.ListN.{length}
 use lib.Seq.{take-length, length-take-le}
+use Rattle.lines.specs.Line.{lineBytes}
 use Rattle.lines.proofs.Splits.{upto-le}
 use Rattle.lines.proofs.Windows.{clipped-short, clipped-line, clipped-open}
 use borrow.Author.Needs.{needs}
@@ -25,7 +26,7 @@ returns-2 : tie.Need-returns-2
 returns-2 c =
     let s = c .before .before .before .before .args .rest .now in
     let e = clipped-open s (sym (c .before .line-len .ensures .1) ∙ c .if2 .taken) in
-    (sym (ap length e ∙ length-take-le 1033 s (omega arith)), (omega arith, sym e))
+    (sym (ap length e ∙ length-take-le lineBytes s (omega arith)), (omega arith, sym e))
 
 returns-3 : tie.Need-returns-3
 returns-3 c =
