@@ -10,11 +10,6 @@ use Rattle.lines.proofs.Feeding.{feeding-none, part-len}
 use Rattle.lines.proofs.Batches.{Batching, batching-line, batched-full, batched-none, batch-right}
 use Rattle.lines.proofs.batch.answer_lines.Statement.{statement}
 use Rattle.lines.proofs.batch.answer_lines.Tie as tie
-use Rattle.lines.proofs.batch.answer_lines.Reads as reads
-use Rattle.lines.proofs.batch.answer_lines.Lts as lts
-use Rattle.lines.proofs.batch.put_numbers.Reads as put-numbers-reads
-use Rattle.lines.proofs.batch.with_newline.Reads as with-newline-reads
-use Rattle.lines.proofs.window.line_len.Reads as line-len-reads
 
 abbrev Inv-loop : tie.InvT-loop
 Inv-loop s out₀ used₀ put₀ out used put = Batching s out₀ out used put
@@ -37,12 +32,6 @@ returns c = batch-right (c .before .before .before .before .before .args .s .now
 
 sub-rest : tie.Need-sub-rest Inv-loop μ-loop
 sub-rest c = omega arith
-
-part-rest-start : tie.Need-part-rest-start Inv-loop μ-loop
-part-rest-start c = search needs
-
-part-rest-end : tie.Need-part-rest-end Inv-loop μ-loop
-part-rest-end c = search needs
 
 line-len-requires : tie.Need-line-len-requires Inv-loop μ-loop
 line-len-requires c κs = tt
@@ -90,8 +79,8 @@ answer-lines-spec =
     same-length
     returns
     sub-rest
-    part-rest-start
-    part-rest-end
+    (λ c. search needs)
+    (λ c. search needs)
     line-len-requires
     slice-aggregate-put-numbers
     put-numbers-requires

@@ -8,19 +8,6 @@ use Rattle.lines.proofs.Texts.{put-room, put-fields}
 use borrow.Author.Needs.{needs}
 use Rattle.lines.proofs.put.put_line.Statement.{statement}
 use Rattle.lines.proofs.put.put_line.Tie as tie
-use Rattle.lines.proofs.put.put_line.Reads as reads
-use Rattle.lines.proofs.put.put_line.Lts as lts
-use Rattle.answer.proofs.reason.Reason.number.Reads as reason-Reason-number-reads
-use Rattle.answer.proofs.severity.Severity.number.Reads as severity-Severity-number-reads
-use Rattle.answer.proofs.verdict.Verdict.number.Reads as verdict-Verdict-number-reads
-use Rattle.lines.proofs.line.answer_line.Reads as answer-line-reads
-use Rattle.lines.proofs.put.put_field.Reads as put-field-reads
-
-answer-line-requires : tie.Need-answer-line-requires
-answer-line-requires c κs = search needs
-
-number-requires : tie.Need-number-requires
-number-requires c κs = search needs
 
 put-field-requires : tie.Need-put-field-requires
 put-field-requires c κs = (omega arith, omega (arith, c .number .ensures, verdict-small (c .before .before .answer-line .result .verdict)))
@@ -28,20 +15,11 @@ put-field-requires c κs = (omega arith, omega (arith, c .number .ensures, verdi
 put-field-requires-2 : tie.Need-put-field-requires-2
 put-field-requires-2 c κs = (put-room 4 (c .before .before .before .put-field .ensures) (omega arith), rw (c .before .before .before .before .before .before .answer-line .ensures) (rule-small (c .before .before .before .before .before .before .before .before .before .args .line .now)))
 
-number-requires-2 : tie.Need-number-requires-2
-number-requires-2 c κs = search needs
-
 put-field-requires-3 : tie.Need-put-field-requires-3
 put-field-requires-3 c κs = (put-room 4 (c .before .before .before .before .put-field2 .ensures) (put-room 8 (c .before .before .before .before .before .before .before .before .put-field .ensures) (omega arith)), omega (arith, c .number2 .ensures, severity-small (c .before .before .before .before .before .before .before .before .before .before .before .answer-line .result .severity)))
 
-number-requires-3 : tie.Need-number-requires-3
-number-requires-3 c κs = search needs
-
 put-field-requires-4 : tie.Need-put-field-requires-4
 put-field-requires-4 c κs = (put-room 4 (c .before .before .before .before .put-field3 .ensures) (put-room 8 (c .before .before .before .before .before .before .before .before .before .put-field2 .ensures) (put-room 12 (c .before .before .before .before .before .before .before .before .before .before .before .before .before .put-field .ensures) (omega arith))), omega (arith, c .number3 .ensures, reason-small (c .before .before .before .before .before .before .before .before .before .before .before .before .before .before .before .before .answer-line .result .reason), severity-small (c .before .before .before .before .before .before .before .before .before .before .before .before .before .before .before .before .answer-line .result .severity)))
-
-same-length : tie.Need-same-length
-same-length c = search needs
 
 returns : tie.Need-returns
 unfolding lineText lineNumbers
@@ -55,13 +33,13 @@ pub put-line-spec : {M : Type 1} → statement M
 put-line-spec =
     tie.close
     (tie.spec
-    answer-line-requires
-    number-requires
+    (λ c κs. search needs)
+    (λ c κs. search needs)
     put-field-requires
     put-field-requires-2
-    number-requires-2
+    (λ c κs. search needs)
     put-field-requires-3
-    number-requires-3
+    (λ c κs. search needs)
     put-field-requires-4
-    same-length
+    (λ c. search needs)
     returns)

@@ -9,18 +9,12 @@ use Rattle.lines.proofs.Windows.{clipped-short, clipped-line, clipped-o
 use borrow.Author.Needs.{needs}
 use Rattle.lines.proofs.window.keep_len.Statement.{statement}
 use Rattle.lines.proofs.window.keep_len.Tie as tie
-use Rattle.lines.proofs.window.keep_len.Reads as reads
-use Rattle.lines.proofs.window.keep_len.Lts as lts
-use Rattle.lines.proofs.window.line_len.Reads as line-len-reads
 
 returns : tie.Need-returns
 returns c =
     let s = c .before .before .args .rest .now in
     let e = clipped-short s (c .if1 .taken) in
     (ap length (sym e), (omega arith, take-length s ∙ sym e))
-
-line-len-requires : tie.Need-line-len-requires
-line-len-requires c κs = search needs
 
 returns-2 : tie.Need-returns-2
 returns-2 c =
@@ -35,4 +29,10 @@ returns-3 c =
     (ap length (sym e), (omega arith, take-length s ∙ sym e))
 
 pub keep-len-spec : {M : Type 1} → statement M
-keep-len-spec = tie.close (tie.spec returns line-len-requires returns-2 returns-3)
+keep-len-spec =
+    tie.close
+    (tie.spec
+    returns
+    (λ c κs. search needs)
+    returns-2
+    returns-3)
