@@ -14,10 +14,10 @@ use Rattle.ascii.proofs.Area.{put-stores}
 use Rattle.answer.specs.declared.record.Answer.{Answer}
 use Rattle.answer.specs.Numbers.{verdictNumber, severityNumber, reasonNumber}
 use Rattle.answer.specs.Answers.{answerNumbers}
-use Rattle.lines.specs.Stream.{inTurn, linesOf, split}
-use Rattle.lines.specs.Window.{extent}
+use Rattle.lines.specs.Line.{lineNumbers}
+use Rattle.lines.specs.Stream.{inTurn, linesOf, split, extent}
+use Rattle.lines.specs.Batch.{numbersEach, batched, numbersOf, spannedOf, BatchRight}
 use Rattle.lines.specs.Inner.{upto}
-use Rattle.lines.specs.Batch.{numbersEach, lineNumbers, batched, numbersOf, spannedOf, BatchRight}
 use Rattle.lines.proofs.Splits.{by, Open, upto-le, split-line, fronted, lines-open, fronted-alone}
 use Rattle.lines.proofs.Feeding.{Feeding, feeding-on, feeding-laid}
 

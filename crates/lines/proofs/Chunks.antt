@@ -9,17 +9,18 @@ use lib.ListN.{length, take, drop, length-append, length-take, length-drop}
 use lib.Seq.{take-nil, drop-drop}
 use borrow.Author.Tests.{leb-true, leb-false, ltb-true, ltb-false}
 use Rattle.ascii.specs.Area.{joined}
+use Rattle.ascii.specs.Pick.{pick}
+use Rattle.ascii.specs.Class.{among}
 use Rattle.answer.specs.declared.record.Answer.{Answer}
 use Rattle.answer.specs.Answers.{answerNumbers}
-use Rattle.lines.specs.Line.{lineBytes, answerOf}
-use Rattle.lines.specs.Text.{numbersText, field, numeral, answerText, lineText, answerRoom}
+use Rattle.lines.specs.Line.{newline, lineBytes, answerOf, lineNumbers}
+use Rattle.lines.specs.Text.{numbersText, field, numeral, lineText, answerRoom}
 use Rattle.lines.specs.Stream.{split, linesOf, inTurn, answersTo, answers}
-use Rattle.lines.specs.Window.{usedOf, writtenOf, clipped, keptOf, lastOf}
-use Rattle.lines.specs.Turn.{Run, over, next}
+use Rattle.lines.specs.Turn.{usedOf, writtenOf, clipped, keptOf, lastOf, isOver, turnWrites, Run, over, next}
 use Rattle.lines.specs.Inner.{upto}
 use Rattle.lines.proofs.Heads.{answer-cut}
 use Rattle.lines.proofs.Splits.{by, Open, upto-le, split-line, open-take, fronted, lines-open, fronted-first, fronted-alone}
-use Rattle.lines.proofs.Turns.{over-none, over-writes, next-writes}
+use Rattle.lines.proofs.Turns.{over-none, not-over, over-writes, next-writes}
 use Rattle.lines.proofs.Windows.{Stops, stops-full, stops-open, written-none, used-none, written-line, used-line, clipped-line, clipped-open, last-none, last-line}
 
 -- ---- a line that is cut
@@ -30,9 +31,9 @@ take-cut (suc n) [] r = refl
 take-cut (suc n) (x ∷ p) r = ap (λ (l : List ℕ). x ∷ l) (take-cut n p r)
 
 pub line-cut : (p r : List ℕ) → lineText (take lineBytes p ++ r) ≡ lineText (p ++ r)
-unfolding lineText
+unfolding lineText lineNumbers
 line-cut p r =
-    ap answerText
+    ap (λ (a : Answer). numbersText (answerNumbers a))
     (sym (answer-cut (take lineBytes p ++ r)) ∙ ap answerOf (take-cut lineBytes p r) ∙ answer-cut (p ++ r))
 
 line-clip : (p : List ℕ) → lineText (take lineBytes p) ≡ lineText p
@@ -132,13 +133,9 @@ continue room s t =
 some : (d t : List ℕ) (b : ℕ) → 0 < length ((d ++ b ∷ []) ++ t)
 some d t b = omega (arith, length-append (d ++ b ∷ []) t, length-append d (b ∷ []))
 
-answer-some : (a : Answer) → 0 < length (answerText a)
-unfolding answerText answerNumbers numbersText field
-answer-some a = some (numeral _) _ _
-
 text-some : (l : List ℕ) → 0 < length (lineText l)
-unfolding lineText
-text-some l = answer-some (answerOf l)
+unfolding lineText lineNumbers answerNumbers numbersText field
+text-some l = some (numeral _) _ _
 
 -- a step that writes nothing, where there is room, has met no newline
 pub nothing-open : (room : ℕ) (s : List ℕ) → answerRoom ≤ room → writtenOf room s ≡ [] → Open s
@@ -191,3 +188,48 @@ run-on {room} {kept} h (next {chunk = c} {chunks = cs} {out = out} e r) =
 -- Whatever the chunks, the turns up to the one that is over write the answers to the whole input.
 pub whole-run : {room : ℕ} {chunks : List (List ℕ)} {out : List ℕ} → answerRoom ≤ room → Run room [] chunks out → out ≡ answers (joined chunks)
 whole-run h r = run-on h r
+
+-- ---- the turns come to an end
+
+-- reads behind the end of the input
+abbrev pub silent : ℕ → List (List ℕ)
+silent zero = []
+silent (suc n) = [] ∷ silent n
+
+pub record Ends (room : ℕ) (kept : List ℕ) : Type 0 where
+  pub turns : ℕ
+  pub out : List ℕ
+  pub run : Run room kept (silent turns) out
+
+clipped-le : (s : List ℕ) → length (clipped s) ≤ length s
+unfolding clipped pick
+clipped-le s = by (among newline s) (λ e. rw e (omega arith)) (λ e. rw e (omega (arith, length-take lineBytes s)))
+
+-- a turn that answers a line keeps less
+shorter : (room : ℕ) (s : List ℕ) → answerRoom ≤ room → (writtenOf room s ≡ [] → ⊥) → length (keptOf room s) < length s
+unfolding keptOf
+shorter room s h some =
+    by (ltb (upto s) (length s))
+    (λ e.
+    omega (
+      arith,
+      used-line room s (upto s) refl h (ltb-true _ _ e),
+      ltb-true (upto s) (length s) e,
+      clipped-le (drop (usedOf room s) s),
+      length-drop (usedOf room s) s,
+    ))
+    (λ e. absurd (some (written-none room s (stops-open room s (omega (arith, upto-le s, ltb-false (upto s) (length s) e))))))
+
+ends-within : (n room : ℕ) (kept : List ℕ) → answerRoom ≤ room → length kept < n → Ends room kept
+ends-within zero room kept h k = absurd (omega arith)
+ends-within (suc n) room kept h k =
+    by (isOver room 0 (kept ++ []))
+    (λ e. record { turns = 1; out = turnWrites room 0 (kept ++ []); run = over e })
+    (λ e.
+    let less = shorter room (kept ++ []) h (not-over room (kept ++ []) e) in
+    let rest = ends-within n room (keptOf room (kept ++ [])) h (omega (arith, less, length-append kept [])) in
+    record { turns = suc (rest .turns); out = turnWrites room 0 (kept ++ []) ++ rest .out; run = next e (rest .run) })
+
+-- Where the input has ended, the turns come to one that is over.
+pub run-ends : (room : ℕ) (kept : List ℕ) → answerRoom ≤ room → Ends room kept
+run-ends room kept h = ends-within (suc (length kept)) room kept h (omega arith)

@@ -14,7 +14,7 @@ use Rattle.ascii.proofs.Tests.{false-true}
 use Rattle.ascii.specs.Pick.{pick}
 use Rattle.ascii.specs.Class.{among}
 use Rattle.lines.specs.Stream.{inFront, split, linesOf}
-use Rattle.lines.specs.Window.{ended}
+use Rattle.lines.specs.Turn.{ended}
 use Rattle.lines.specs.Inner.{upto}
 
 pub by : {P : Type 0} (x : Bool) → (x ≡ true → P) → (x ≡ false → P) → P

@@ -12,7 +12,7 @@ use Rattle.ascii.proofs.Area.{put-size, put-more, put-stores}
 use Rattle.answer.specs.declared.record.Answer.{Answer}
 use Rattle.answer.specs.Numbers.{verdictNumber, severityNumber, reasonNumber}
 use Rattle.answer.specs.Answers.{answerNumbers}
-use Rattle.lines.specs.Text.{inDigits, numeral, field, numbersText, answerText, answerRoom}
+use Rattle.lines.specs.Text.{inDigits, numeral, field, numbersText, answerRoom}
 
 -- ---- a number in decimal
 
@@ -54,8 +54,8 @@ put-behind {old} {at} {k} {mid} n b h p =
 pub put-fields : (a : Answer) (v s w : ℕ) {o o₁ o₂ o₃ o₄ : List ℕ} {at k m n r : ℕ} → at + answerRoom ≤ length o
     → v ≡ verdictNumber (a .verdict) → s ≡ severityNumber (a .severity) → w ≡ reasonNumber (a .reason)
     → Put 4 o at (field v 32) k o₁ → Put 4 o₁ k (field (a .rule) 32) m o₂ → Put 4 o₂ m (field s 32) n o₃ → Put 4 o₃ n (field w 10) r o₄
-    → Put answerRoom o at (answerText a) r o₄
-unfolding answerText answerNumbers numbersText
+    → Put answerRoom o at (numbersText (answerNumbers a)) r o₄
+unfolding answerNumbers numbersText
 put-fields a v s w h ev es ew p q x y =
     let pq = put-more p q (omega (arith, p .few)) in
     let pqx = put-more pq x (omega (arith, pq .few)) in

@@ -7,19 +7,22 @@ use native.Mathlib.Nat.{zero-add}
 use native.Mathlib.Omega.{arith}
 use lib.Dec.{eqb}
 use lib.ListN.{length, take}
-use borrow.Author.Tests.{eqb-true}
+use borrow.Author.Tests.{eqb-true, eqb-false}
 use Rattle.ascii.specs.Area.{Put}
 use Rattle.ascii.specs.Pick.{pick}
 use Rattle.ascii.proofs.Tests.{and-true}
 use Rattle.ascii.proofs.Area.{put-nil, put-front}
-use Rattle.lines.specs.Window.{writtenOf, keptOf, lastOf}
-use Rattle.lines.specs.Turn.{isOver, turnWrites, TurnRight}
+use Rattle.lines.specs.Turn.{writtenOf, keptOf, lastOf, isOver, turnWrites, TurnRight}
 use Rattle.lines.specs.Inner.{StepRight}
 use Rattle.lines.proofs.Heads.{take-least}
 
 empty : (l : List ℕ) → length l ≡ 0 → l ≡ []
 empty [] e = refl
 empty (x ∷ l) e = absurd (omega arith)
+
+pub not-over : (room : ℕ) (s : List ℕ) → isOver room 0 s ≡ false → writtenOf room s ≡ [] → ⊥
+unfolding isOver
+not-over room s e w = eqb-false (length (writtenOf room s)) 0 e (rw w)
 
 module _ (room fresh : ℕ) (s : List ℕ) where
   pub over-none : isOver room fresh s ≡ true → writtenOf room s ≡ []

@@ -15,8 +15,8 @@ use Rattle.ascii.specs.Pick.{pick}
 use Rattle.ascii.proofs.Area.{put-start, put-most}
 use Rattle.lines.specs.Line.{lineBytes}
 use Rattle.lines.specs.Text.{lineText, answerRoom}
-use Rattle.lines.specs.Stream.{inTurn}
-use Rattle.lines.specs.Window.{ended, fitting, extent, writtenOf, usedOf, clipped, keptOf, lastOf}
+use Rattle.lines.specs.Stream.{inTurn, extent}
+use Rattle.lines.specs.Turn.{ended, fitting, writtenOf, usedOf, clipped, keptOf, lastOf}
 use Rattle.lines.specs.Inner.{upto, StepRight}
 use Rattle.lines.proofs.Heads.{drop-take}
 use Rattle.lines.proofs.Feeding.{Feeding, feeding-on, feeding-laid, part-tail}

@@ -4,17 +4,12 @@ use mathlib.Core.List.{List}
 use Prim.Native.Nat.{ℕ, _/_, min}
 use lib.ListN.{length, take}
 use Rattle.ascii.specs.Area.{put}
-use Rattle.answer.specs.Answers.{answerNumbers}
-use Rattle.lines.specs.Line.{answerOf}
-use Rattle.lines.specs.Stream.{inTurn, linesOf}
-use Rattle.lines.specs.Window.{extent}
+use Rattle.lines.specs.Line.{lineNumbers}
+use Rattle.lines.specs.Stream.{linesOf, extent, inTurn}
 
 -- how many numbers an answer has
 abbrev pub numbersEach : ℕ
 numbersEach = 4
-
-unfoldable pub lineNumbers : List ℕ → List ℕ
-lineNumbers line = answerNumbers (answerOf line)
 
 -- the first lines of a text, as many as an area of `room` numbers has room for
 unfoldable pub batched : ℕ → List ℕ → List (List ℕ)

@@ -7,7 +7,7 @@ use Rattle.ascii.specs.Area.{Put}
 use Rattle.ascii.specs.Pick.{pick}
 use Rattle.lines.specs.Line.{newline, lineBytes}
 use Rattle.lines.specs.Text.{answerRoom}
-use Rattle.lines.specs.Window.{writtenOf, keptOf}
+use Rattle.lines.specs.Turn.{writtenOf, keptOf}
 
 -- how many bytes stand before the first newline
 unfoldable pub upto : List ℕ → ℕ

@@ -2,7 +2,6 @@
 pub mod Line
 pub mod Text
 pub mod Stream
-pub mod Window
 pub mod Turn
 pub mod Batch
 pub mod Inner

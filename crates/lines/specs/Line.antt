@@ -10,7 +10,7 @@ use Rattle.ascii.specs.Class.{isDigit}
 use Rattle.answer.specs.declared.record.Answer.{Answer}
 use Rattle.answer.specs.declared.reason.Reason.the-variants.{Line}
 use Rattle.answer.specs.declared.severity.Severity.the-variants.{NoSeverity}
-use Rattle.answer.specs.Answers.{refused}
+use Rattle.answer.specs.Answers.{refused, answerNumbers}
 use Rattle.checks.specs.Check.{checkOf}
 
 abbrev pub space : ℕ
@@ -33,9 +33,12 @@ termOf s = 10 * (getD s 5 0 - code "0") + (getD s 6 0 - code "0")
 unfoldable pub lineContent : List ℕ → List ℕ
 lineContent s = take 1025 (drop 8 s)
 
--- of a line, then, its head and these
+-- of a line its head and these
 abbrev pub lineBytes : ℕ
 lineBytes = 1033
 
 unfoldable pub answerOf : List ℕ → Answer
 answerOf s = pick (headOk s) (checkOf (take 4 s) (termOf s) (lineContent s)) (refused 0 NoSeverity Line)
+
+unfoldable pub lineNumbers : List ℕ → List ℕ
+lineNumbers s = answerNumbers (answerOf s)

@@ -1,8 +1,9 @@
 -- The whole program: the output of a whole input.
 use mathlib.Core.Bool.{Bool, true}
 use mathlib.Core.List.{List, [], _∷_, _++_}
-use Prim.Native.Nat.{ℕ}
+use Prim.Native.Nat.{ℕ, _+_}
 use lib.Dec.{eqb}
+use lib.ListN.{length}
 use Rattle.ascii.specs.Pick.{pick}
 use Rattle.lines.specs.Line.{newline}
 use Rattle.lines.specs.Text.{lineText}
@@ -20,6 +21,11 @@ split counts (b ∷ s) = pick (eqb b newline) ([] ∷ split counts s) (inFront c
 -- a last line without newline counts if it has a byte
 abbrev pub linesOf : List ℕ → List (List ℕ)
 linesOf s = split true s
+
+-- the bytes of some lines, newlines counted
+unfoldable pub extent : List (List ℕ) → ℕ
+extent [] = 0
+extent (l ∷ ls) = length l + 1 + extent ls
 
 -- what is said of each line, one after the other
 unfoldable pub inTurn : (List ℕ → List ℕ) → List (List ℕ) → List ℕ

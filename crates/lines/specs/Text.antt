@@ -4,9 +4,7 @@ use Prim.Native.Nat.{ℕ, zero, suc, _+_, _/_, _%_}
 use Prim.Native.Char.{code}
 use lib.Dec.{ltb}
 use Rattle.ascii.specs.Pick.{pick}
-use Rattle.answer.specs.declared.record.Answer.{Answer}
-use Rattle.answer.specs.Answers.{answerNumbers}
-use Rattle.lines.specs.Line.{space, newline, answerOf}
+use Rattle.lines.specs.Line.{space, newline, lineNumbers}
 
 abbrev pub digit : ℕ → ℕ
 digit d = code "0" + d
@@ -29,13 +27,10 @@ numbersText [] = []
 numbersText (n ∷ []) = field n newline
 numbersText (n ∷ m ∷ ns) = field n space ++ numbersText (m ∷ ns)
 
-unfoldable pub answerText : Answer → List ℕ
-answerText a = numbersText (answerNumbers a)
+-- the text that a line is answered by
+unfoldable pub lineText : List ℕ → List ℕ
+lineText line = numbersText (lineNumbers line)
 
 -- the bytes that it takes at most: four numbers of three digits, and a byte behind each
 abbrev pub answerRoom : ℕ
 answerRoom = 16
-
--- the text that a line is answered by
-unfoldable pub lineText : List ℕ → List ℕ
-lineText line = answerText (answerOf line)

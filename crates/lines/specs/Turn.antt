@@ -1,17 +1,47 @@
--- The program: what a turn over a window s of the input does, of which `fresh` bytes were just read, and a run of turns.
+-- The program: a turn over a window s of the input, with an output area of `room` bytes, and a run of turns.
 use mathlib.Core.Path.{_≡_}
 use mathlib.Core.Bool.{Bool, true, false, _&&_}
 use mathlib.Core.List.{List, [], _∷_, _++_}
-use Prim.Native.Nat.{ℕ, _≤_, _<_}
-use lib.Dec.{eqb}
-use lib.ListN.{length}
+use Prim.Native.Nat.{ℕ, _-_, _≤_, _<_}
+use lib.Dec.{leb, eqb}
+use lib.ListN.{length, take, drop}
 use Rattle.ascii.specs.Area.{Put}
 use Rattle.ascii.specs.Pick.{pick}
-use Rattle.lines.specs.Line.{lineBytes}
-use Rattle.lines.specs.Text.{answerRoom}
-use Rattle.lines.specs.Window.{writtenOf, keptOf, lastOf}
+use Rattle.ascii.specs.Class.{among}
+use Rattle.lines.specs.Line.{newline, lineBytes}
+use Rattle.lines.specs.Text.{lineText, answerRoom}
+use Rattle.lines.specs.Stream.{split, extent, answersTo}
 
--- a read of no bytes means that the input has ended; where no whole line is answered then, the turn is over
+-- the lines that a newline ends
+abbrev pub ended : List ℕ → List (List ℕ)
+ended s = split false s
+
+-- the first of some lines, as long as an answer has room
+unfoldable pub fitting : ℕ → List (List ℕ) → List (List ℕ)
+fitting room [] = []
+fitting room (l ∷ ls) = pick (leb answerRoom room) (l ∷ fitting (room - length (lineText l)) ls) []
+
+-- what is written: the answers to the lines that are ended and for which there is room
+unfoldable pub writtenOf : ℕ → List ℕ → List ℕ
+writtenOf room s = answersTo (fitting room (ended s))
+
+-- how many bytes of the window these lines are
+unfoldable pub usedOf : ℕ → List ℕ → ℕ
+usedOf room s = extent (fitting room (ended s))
+
+-- of a line that no newline ends yet, the bytes that are read
+unfoldable pub clipped : List ℕ → List ℕ
+clipped rest = pick (among newline rest) rest (take lineBytes rest)
+
+-- what is kept for the next turn
+unfoldable pub keptOf : ℕ → List ℕ → List ℕ
+keptOf room s = clipped (drop (usedOf room s) s)
+
+-- what is written for a last line that no newline ends
+unfoldable pub lastOf : ℕ → List ℕ → List ℕ
+lastOf room s = pick (leb answerRoom room && leb 1 (length s)) (lineText s) []
+
+-- `fresh` bytes of s were just read; none means that the input has ended. Where no whole line is answered then, the turn is over
 unfoldable pub isOver : ℕ → ℕ → List ℕ → Bool
 isOver room fresh s = eqb fresh 0 && eqb (length (writtenOf room s)) 0
 

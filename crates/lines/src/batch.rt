@@ -3,19 +3,19 @@ ghost use mathlib.Core.Path.{_≡_};
 ghost use Prim.Native.Nat.{_+_, _≤_, min};
 ghost use lib.ListN.{length};
 ghost use Rattle.ascii.specs.Area.{Put};
-ghost use Rattle.answer.specs.Answers.{answerNumbers};
-ghost use Rattle.lines.specs.Batch.{numbersEach, lineNumbers, BatchRight};
+ghost use Rattle.lines.specs.Line.{lineNumbers};
+ghost use Rattle.lines.specs.Batch.{numbersEach, BatchRight};
 use super::line::answer_line;
 use super::window::line_len;
-use answer::Answer;
 
 // How many numbers an answer has.
 const NUMBERS: usize = 4;
 
-fn put_numbers(out: &mut [u32], at: usize, a: Answer) -> usize
+fn put_numbers(line: &[u8], out: &mut [u32], at: usize) -> usize
     requires { ⌜ at + numbersEach ≤ length (now out) ⌝ }
-    ensures { λ r. ⌜ Put numbersEach (now (out .entry)) at (answerNumbers a) r (now (out .exit)) ⌝ }
+    ensures { λ r. ⌜ Put numbersEach (now (out .entry)) at (lineNumbers (now (line .entry))) r (now (out .exit)) ⌝ }
 {
+    let a = answer_line(line);
     let verdict = a.verdict;
     let rule = a.rule;
     let severity = a.severity;
@@ -31,14 +31,6 @@ fn put_numbers(out: &mut [u32], at: usize, a: Answer) -> usize
     out[m] = s;
     out[n] = w;
     n + 1
-}
-
-fn put_line_numbers(line: &[u8], out: &mut [u32], at: usize) -> usize
-    requires { ⌜ at + numbersEach ≤ length (now out) ⌝ }
-    ensures { λ r. ⌜ Put numbersEach (now (out .entry)) at (lineNumbers (now (line .entry))) r (now (out .exit)) ⌝ }
-{
-    let a = answer_line(line);
-    put_numbers(out, at, a)
 }
 
 // A line's bytes with its newline; a last line may have none.
@@ -70,7 +62,7 @@ pub fn answer_lines(s: &[u8], out: &mut [u32]) -> Batch
         }
         let rest = &s[used..];
         let n = line_len(rest);
-        put = put_line_numbers(&rest[..n], out, put);
+        put = put_numbers(&rest[..n], out, put);
         used += with_newline(n, rest.len());
     }
     Batch {

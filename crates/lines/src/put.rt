@@ -1,13 +1,20 @@
 // The text of an answer.
+ghost use mathlib.Core.Path.{_≡_};
 ghost use Prim.Native.Nat.{_+_, _≤_, _<_};
 ghost use lib.ListN.{length};
 ghost use Rattle.ascii.specs.Area.{Put};
-ghost use Rattle.lines.specs.Text.{numeral, field, answerText, lineText, answerRoom};
+ghost use Rattle.lines.specs.Text.{numeral, field, lineText, answerRoom};
 use super::line::answer_line;
-use answer::Answer;
 
 // The bytes that an answer's text takes at most.
 pub(crate) const ANSWER_ROOM: usize = 16;
+
+fn digit(d: u32) -> u8
+    requires { ⌜ d < 10 ⌝ }
+    ensures { λ r. ⌜ r ≡ 48 + d ⌝ }
+{
+    (48 + d) as u8
+}
 
 fn put_number(out: &mut [u8], at: usize, n: u32) -> usize
     requires { ⌜ at + 3 ≤ length (now out) ⌝ }
@@ -15,20 +22,20 @@ fn put_number(out: &mut [u8], at: usize, n: u32) -> usize
     ensures { λ r. ⌜ Put 3 (now (out .entry)) at (numeral n) r (now (out .exit)) ⌝ }
 {
     if n < 10 {
-        out[at] = (48 + n) as u8;
+        out[at] = digit(n);
         return at + 1;
     }
-    let low = (48 + n % 10) as u8;
+    let low = digit(n % 10);
     let tens = n / 10;
     let k = at + 1;
     if tens < 10 {
-        out[at] = (48 + tens) as u8;
+        out[at] = digit(tens);
         out[k] = low;
         return k + 1;
     }
     let m = k + 1;
-    out[at] = (48 + tens / 10) as u8;
-    out[k] = (48 + tens % 10) as u8;
+    out[at] = digit(tens / 10);
+    out[k] = digit(tens % 10);
     out[m] = low;
     m + 1
 }
@@ -44,11 +51,12 @@ fn put_field(out: &mut [u8], at: usize, n: u32, behind: u8) -> usize
     k + 1
 }
 
-fn put_answer(out: &mut [u8], at: usize, a: Answer) -> usize
+// Stores the answer to a line from `at` on, and says where its text ends.
+pub(crate) fn put_line(line: &[u8], out: &mut [u8], at: usize) -> usize
     requires { ⌜ at + answerRoom ≤ length (now out) ⌝ }
-    requires { ⌜ a .rule < 1000 ⌝ }
-    ensures { λ r. ⌜ Put answerRoom (now (out .entry)) at (answerText a) r (now (out .exit)) ⌝ }
+    ensures { λ r. ⌜ Put answerRoom (now (out .entry)) at (lineText (now (line .entry))) r (now (out .exit)) ⌝ }
 {
+    let a = answer_line(line);
     let verdict = a.verdict;
     let rule = a.rule;
     let severity = a.severity;
@@ -57,13 +65,4 @@ fn put_answer(out: &mut [u8], at: usize, a: Answer) -> usize
     let m = put_field(out, k, rule, b' ');
     let n = put_field(out, m, severity.number(), b' ');
     put_field(out, n, reason.number(), b'\n')
-}
-
-// Stores the answer to a line from `at` on, and says where its text ends.
-pub(crate) fn put_line(line: &[u8], out: &mut [u8], at: usize) -> usize
-    requires { ⌜ at + answerRoom ≤ length (now out) ⌝ }
-    ensures { λ r. ⌜ Put answerRoom (now (out .entry)) at (lineText (now (line .entry))) r (now (out .exit)) ⌝ }
-{
-    let a = answer_line(line);
-    put_answer(out, at, a)
 }

@@ -5,7 +5,7 @@ ghost use mathlib.Core.List.{_++_};
 ghost use Prim.Native.Nat.{_+_, _≤_};
 ghost use lib.ListN.{length, take, drop};
 ghost use Rattle.ascii.specs.Area.{Put};
-ghost use Rattle.lines.specs.Window.{usedOf, writtenOf, clipped, lastOf};
+ghost use Rattle.lines.specs.Turn.{usedOf, writtenOf, clipped, lastOf};
 ghost use Rattle.lines.specs.Inner.{upto, StepRight};
 use super::line::LINE_BYTES;
 use super::put::ANSWER_ROOM;

@@ -6,9 +6,6 @@ use native.Mathlib.Omega.{arith}
 use borrow.Author.Needs.{needs}
 use Rattle.checklines.proofs.answer_all.Statement.{statement}
 use Rattle.checklines.proofs.answer_all.Tie as tie
-use Rattle.checklines.proofs.answer_all.Reads as reads
-use Rattle.checklines.proofs.answer_all.Lts as lts
-use Rattle.checklines.proofs.turn.Reads as turn-reads
 
 abbrev Inv-loop : tie.InvT-loop
 Inv-loop buf₀ out₀ kept₀ turns₀ buf out kept turns = (length buf ≡ length buf₀) × (length out ≡ length out₀) × (kept < length buf)
@@ -22,12 +19,6 @@ loop-holds c = (refl, refl, omega arith)
 turn-requires : tie.Need-turn-requires Inv-loop μ-loop
 turn-requires c κs = omega arith
 
-same-length : tie.Need-same-length Inv-loop μ-loop
-same-length c = search needs
-
-same-length-2 : tie.Need-same-length-2 Inv-loop μ-loop
-same-length-2 c = search needs
-
 returns : tie.Need-returns Inv-loop μ-loop
 returns c = tt
 
@@ -36,15 +27,6 @@ sub-turns c = omega arith
 
 loop-less : tie.Need-loop-less Inv-loop μ-loop
 loop-less c = omega arith
-
-loop-again : tie.Need-loop-again Inv-loop μ-loop
-loop-again c = search needs
-
-same-length-3 : tie.Need-same-length-3 Inv-loop μ-loop
-same-length-3 c = search needs
-
-same-length-4 : tie.Need-same-length-4 Inv-loop μ-loop
-same-length-4 c = search needs
 
 returns-2 : tie.Need-returns-2 Inv-loop μ-loop
 returns-2 c = tt
@@ -57,12 +39,12 @@ answer-all-spec =
     μ-loop
     loop-holds
     turn-requires
-    same-length
-    same-length-2
+    (λ c. search needs)
+    (λ c. search needs)
     returns
     sub-turns
     loop-less
-    loop-again
-    same-length-3
-    same-length-4
+    (λ c. search needs)
+    (λ c. search needs)
+    (λ c. search needs)
     returns-2)

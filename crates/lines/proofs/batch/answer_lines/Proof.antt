@@ -10,11 +10,6 @@ use Rattle.lines.proofs.Feeding.{feeding-none, part-len}
 use Rattle.lines.proofs.Batches.{Batching, batching-line, batched-full, batched-none, batch-right}
 use Rattle.lines.proofs.batch.answer_lines.Statement.{statement}
 use Rattle.lines.proofs.batch.answer_lines.Tie as tie
-use Rattle.lines.proofs.batch.answer_lines.Reads as reads
-use Rattle.lines.proofs.batch.answer_lines.Lts as lts
-use Rattle.lines.proofs.batch.put_line_numbers.Reads as put-line-numbers-reads
-use Rattle.lines.proofs.batch.with_newline.Reads as with-newline-reads
-use Rattle.lines.proofs.window.line_len.Reads as line-len-reads
 
 abbrev Inv-loop : tie.InvT-loop
 Inv-loop s out₀ used₀ put₀ out used put = Batching s out₀ out used put
@@ -38,22 +33,16 @@ returns c = batch-right (c .before .before .before .before .before .args .s .now
 sub-rest : tie.Need-sub-rest Inv-loop μ-loop
 sub-rest c = omega arith
 
-part-rest-start : tie.Need-part-rest-start Inv-loop μ-loop
-part-rest-start c = search needs
-
-part-rest-end : tie.Need-part-rest-end Inv-loop μ-loop
-part-rest-end c = search needs
-
 line-len-requires : tie.Need-line-len-requires Inv-loop μ-loop
 line-len-requires c κs = tt
 
-slice-aggregate-put-line-numbers : tie.Need-slice-aggregate-put-line-numbers Inv-loop μ-loop
-slice-aggregate-put-line-numbers c = let s = c .before .before .before .before .before .before .before .before .args .s .now in
+slice-aggregate-put-numbers : tie.Need-slice-aggregate-put-numbers Inv-loop μ-loop
+slice-aggregate-put-numbers c = let s = c .before .before .before .before .before .before .before .before .args .s .now in
     let used = c .before .before .before .before .before .loop .used in
     sym (length-take-le (c .before .line-len .result) (take (length s - used) (drop used s)) (c .before .line-len .ensures .0))
 
-put-line-numbers-requires : tie.Need-put-line-numbers-requires Inv-loop μ-loop
-put-line-numbers-requires c κs = omega (arith, c .before .before .before .before .if1 .left, c .before .before .before .before .before .before .loop .inv .fits)
+put-numbers-requires : tie.Need-put-numbers-requires Inv-loop μ-loop
+put-numbers-requires c κs = omega (arith, c .before .before .before .before .if1 .left, c .before .before .before .before .before .before .loop .inv .fits)
 
 with-newline-requires : tie.Need-with-newline-requires Inv-loop μ-loop
 with-newline-requires c κs = c .before .before .before .before .before .line-len .ensures .0
@@ -70,7 +59,7 @@ loop-again c = let s = c .before .before .before .before .before .before .before
     let rest = take (length s - used) (drop used s) in
     let some : 0 < length rest = omega (arith, part-len s used, c .before .before .before .before .before .before .before .before .before .loop-test .taken) in
     let room : c .before .before .before .before .before .before .before .before .before .before .loop .put + 4 ≤ length (c .before .before .before .before .before .before .before .before .before .before .loop .out) = omega (arith, c .before .before .before .before .before .before .before .before .if1 .left, c .before .before .before .before .before .before .before .before .before .before .loop .inv .fits) in
-    batching-line s (c .before .before .before .before .before .before .before .before .before .before .before .before .before .args .out .now) (c .before .before .before .before .before .before .before .before .before .before .loop .out) (c .before .before .before .put-line-numbers .last .1 .0) rest used (c .before .before .before .before .before .before .before .before .before .before .loop .put) (c .before .before .before .put-line-numbers .result) (c .before .before .before .before .before .before .line-len .result) (c .with-newline .result) (c .before .before .before .before .before .before .before .before .before .before .loop .inv) refl (c .before .before .before .before .before .before .line-len .ensures .1) (c .with-newline .ensures) some room (c .before .before .before .put-line-numbers .ensures)
+    batching-line s (c .before .before .before .before .before .before .before .before .before .before .before .before .before .args .out .now) (c .before .before .before .before .before .before .before .before .before .before .loop .out) (c .before .before .before .put-numbers .last .1 .0) rest used (c .before .before .before .before .before .before .before .before .before .before .loop .put) (c .before .before .before .put-numbers .result) (c .before .before .before .before .before .before .line-len .result) (c .with-newline .result) (c .before .before .before .before .before .before .before .before .before .before .loop .inv) refl (c .before .before .before .before .before .before .line-len .ensures .1) (c .with-newline .ensures) some room (c .before .before .before .put-numbers .ensures)
 
 same-length-2 : tie.Need-same-length-2 Inv-loop μ-loop
 same-length-2 c = c .before .loop .inv .size
@@ -90,11 +79,11 @@ answer-lines-spec =
     same-length
     returns
     sub-rest
-    part-rest-start
-    part-rest-end
+    (λ c. search needs)
+    (λ c. search needs)
     line-len-requires
-    slice-aggregate-put-line-numbers
-    put-line-numbers-requires
+    slice-aggregate-put-numbers
+    put-numbers-requires
     with-newline-requires
     add-used
     loop-less

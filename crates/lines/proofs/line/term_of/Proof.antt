@@ -5,21 +5,12 @@ use Rattle.lines.proofs.Heads.{head-has}
 use borrow.Author.Needs.{needs}
 use Rattle.lines.proofs.line.term_of.Statement.{statement}
 use Rattle.lines.proofs.line.term_of.Tie as tie
-use Rattle.lines.proofs.line.term_of.Reads as reads
-use Rattle.lines.proofs.line.term_of.Lts as lts
-use Rattle.ascii.proofs.wide.Reads as wide-reads
 
 shared-slice-read-wide : tie.Need-shared-slice-read-wide
 shared-slice-read-wide c = omega (arith, head-has (c .before .before .args .line .now) (c .before .before .pre) .long)
 
-wide-requires : tie.Need-wide-requires
-wide-requires c κs = search needs
-
 shared-slice-read-wide-2 : tie.Need-shared-slice-read-wide-2
 shared-slice-read-wide-2 c = omega (arith, head-has (c .before .before .before .before .args .line .now) (c .before .before .before .before .pre) .long)
-
-wide-requires-2 : tie.Need-wide-requires-2
-wide-requires-2 c κs = search needs
 
 sub-result : tie.Need-sub-result
 sub-result c = let h = head-has (c .before .before .before .before .before .args .line .now) (c .before .before .before .before .before .pre) in omega (arith, h .tens, h .ones, c .before .before .wide .ensures, c .wide2 .ensures)
@@ -42,9 +33,9 @@ term-of-spec =
     tie.close
     (tie.spec
     shared-slice-read-wide
-    wide-requires
+    (λ c κs. search needs)
     shared-slice-read-wide-2
-    wide-requires-2
+    (λ c κs. search needs)
     sub-result
     mul-result
     sub-result-2

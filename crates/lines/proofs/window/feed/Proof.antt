@@ -5,16 +5,12 @@ use native.Mathlib.Omega.{arith}
 use borrow.Author.Needs.{needs}
 use lib.ListN.{length, take, drop}
 use lib.Seq.{length-take-le}
-use Rattle.lines.specs.Window.{writtenOf, usedOf}
+use Rattle.lines.specs.Turn.{writtenOf, usedOf}
 use Rattle.lines.proofs.Splits.{open-end}
 use Rattle.lines.proofs.Feeding.{feeding-none, part-len}
 use Rattle.lines.proofs.Windows.{Fed, feeding-line, stops-full, stops-open, fed-right, part-open}
 use Rattle.lines.proofs.window.feed.Statement.{statement}
 use Rattle.lines.proofs.window.feed.Tie as tie
-use Rattle.lines.proofs.window.feed.Reads as reads
-use Rattle.lines.proofs.window.feed.Lts as lts
-use Rattle.lines.proofs.put.put_line.Reads as put-line-reads
-use Rattle.lines.proofs.window.line_len.Reads as line-len-reads
 
 abbrev Inv-loop : tie.InvT-loop
 Inv-loop s out₀ used₀ put₀ out used put = Fed s out₀ out used put
@@ -37,12 +33,6 @@ returns c = fed-right (c .before .before .before .before .before .args .s .now) 
 
 sub-rest : tie.Need-sub-rest Inv-loop μ-loop
 sub-rest c = omega arith
-
-part-rest-start : tie.Need-part-rest-start Inv-loop μ-loop
-part-rest-start c = search needs
-
-part-rest-end : tie.Need-part-rest-end Inv-loop μ-loop
-part-rest-end c = search needs
 
 line-len-requires : tie.Need-line-len-requires Inv-loop μ-loop
 line-len-requires c κs = tt
@@ -101,8 +91,8 @@ feed-spec =
     same-length
     returns
     sub-rest
-    part-rest-start
-    part-rest-end
+    (λ c. search needs)
+    (λ c. search needs)
     line-len-requires
     same-length-2
     returns-2

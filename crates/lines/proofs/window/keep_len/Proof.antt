@@ -1,16 +1,14 @@
 -- `lines::window::keep_len` says how much of a rest is kept.
 use mathlib.Core.Path.{sym, _∙_, ap}
 use native.Mathlib.Omega.{arith}
-use lib.ListN.{length, length-take}
+use lib.ListN.{length}
 use lib.Seq.{take-length, length-take-le}
+use Rattle.lines.specs.Line.{lineBytes}
 use Rattle.lines.proofs.Splits.{upto-le}
 use Rattle.lines.proofs.Windows.{clipped-short, clipped-line, clipped-open}
 use borrow.Author.Needs.{needs}
 use Rattle.lines.proofs.window.keep_len.Statement.{statement}
 use Rattle.lines.proofs.window.keep_len.Tie as tie
-use Rattle.lines.proofs.window.keep_len.Reads as reads
-use Rattle.lines.proofs.window.keep_len.Lts as lts
-use Rattle.lines.proofs.window.line_len.Reads as line-len-reads
 
 returns : tie.Need-returns
 returns c =
@@ -18,14 +16,11 @@ returns c =
     let e = clipped-short s (c .if1 .taken) in
     (ap length (sym e), (omega arith, take-length s ∙ sym e))
 
-line-len-requires : tie.Need-line-len-requires
-line-len-requires c κs = search needs
-
 returns-2 : tie.Need-returns-2
 returns-2 c =
     let s = c .before .before .before .before .args .rest .now in
     let e = clipped-open s (sym (c .before .line-len .ensures .1) ∙ c .if2 .taken) in
-    (sym (ap length e ∙ length-take-le 1033 s (omega arith)), (omega arith, sym e))
+    (sym (ap length e ∙ length-take-le lineBytes s (omega arith)), (omega arith, sym e))
 
 returns-3 : tie.Need-returns-3
 returns-3 c =
@@ -34,4 +29,10 @@ returns-3 c =
     (ap length (sym e), (omega arith, take-length s ∙ sym e))
 
 pub keep-len-spec : {M : Type 1} → statement M
-keep-len-spec = tie.close (tie.spec returns line-len-requires returns-2 returns-3)
+keep-len-spec =
+    tie.close
+    (tie.spec
+    returns
+    (λ c κs. search needs)
+    returns-2
+    returns-3)

@@ -6,9 +6,6 @@ use Rattle.lines.proofs.Windows.{last-none, last-full, last-line}
 use borrow.Author.Needs.{needs}
 use Rattle.lines.proofs.window.last.Statement.{statement}
 use Rattle.lines.proofs.window.last.Tie as tie
-use Rattle.lines.proofs.window.last.Reads as reads
-use Rattle.lines.proofs.window.last.Lts as lts
-use Rattle.lines.proofs.put.put_line.Reads as put-line-reads
 
 returns : tie.Need-returns
 returns c = rw (last-none (length (c .before .before .before .args .out .now)) (c .before .before .before .args .s .now) (c .if1 .taken)) (put-none _ _ 0)
@@ -16,15 +13,16 @@ returns c = rw (last-none (length (c .before .before .before .args .out .now)) (
 returns-2 : tie.Need-returns-2
 returns-2 c = rw (last-full (length (c .before .before .before .before .args .out .now)) (c .before .before .before .before .args .s .now) (c .if2 .taken)) (put-none _ _ 0)
 
-put-line-requires : tie.Need-put-line-requires
-put-line-requires c κs = search needs
-
-same-length : tie.Need-same-length
-same-length c = search needs
-
 returns-3 : tie.Need-returns-3
 returns-3 c = rw (last-line (length (c .before .before .before .before .before .before .before .before .args .out .now)) (c .before .before .before .before .before .before .before .before .args .s .now) (c .before .before .before .before .if2 .left) (c .before .before .before .before .before .if1 .left))
     (put-most (c .before .before .put-line .ensures) (omega (arith, c .before .before .put-line .ensures .few, c .before .before .before .before .if2 .left)))
 
 pub last-spec : {M : Type 1} → statement M
-last-spec = tie.close (tie.spec returns returns-2 put-line-requires same-length returns-3)
+last-spec =
+    tie.close
+    (tie.spec
+    returns
+    returns-2
+    (λ c κs. search needs)
+    (λ c. search needs)
+    returns-3)

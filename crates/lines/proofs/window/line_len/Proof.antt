@@ -9,18 +9,12 @@ use Rattle.lines.specs.Inner.{upto}
 use Rattle.lines.proofs.Splits.{upto-here, upto-past, upto-end}
 use Rattle.lines.proofs.window.line_len.Statement.{statement}
 use Rattle.lines.proofs.window.line_len.Tie as tie
-use Rattle.lines.proofs.window.line_len.Reads as reads
-use Rattle.lines.proofs.window.line_len.Lts as lts
-use Rattle.lines.proofs.window.skip.Reads as skip-reads
 
 abbrev Inv-loop : tie.InvT-loop
 Inv-loop s i₀ i = (i ≤ length s) × (upto s ≡ i + upto (drop i s))
 
 abbrev μ-loop : tie.MeasureT-loop
 μ-loop s i₀ i = length s - i
-
-skip-requires : tie.Need-skip-requires Inv-loop μ-loop
-skip-requires c κs = search needs
 
 loop-holds : tie.Need-loop-holds Inv-loop μ-loop
 loop-holds c = (c .skip .ensures .0, c .skip .ensures .1)
@@ -55,7 +49,7 @@ line-len-spec =
     (tie.spec
     Inv-loop
     μ-loop
-    skip-requires
+    (λ c κs. search needs)
     loop-holds
     shared-slice-read-if1
     returns

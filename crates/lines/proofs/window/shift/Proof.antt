@@ -7,8 +7,6 @@ use lib.ListN.{length, take, drop, length-set}
 use Rattle.lines.proofs.Windows.{shift-step, shifted}
 use Rattle.lines.proofs.window.shift.Statement.{statement}
 use Rattle.lines.proofs.window.shift.Tie as tie
-use Rattle.lines.proofs.window.shift.Reads as reads
-use Rattle.lines.proofs.window.shift.Lts as lts
 
 abbrev Inv-loop : tie.InvT-loop
 Inv-loop buf₀ from n i₀ buf i = (i ≤ n) × (buf ≡ take i (drop from buf₀) ++ drop i buf₀) × (length buf ≡ length buf₀)

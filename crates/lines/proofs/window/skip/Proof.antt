@@ -7,9 +7,6 @@ use lib.ListN.{length, drop}
 use Rattle.lines.specs.Inner.{upto}
 use Rattle.lines.proofs.window.skip.Statement.{statement}
 use Rattle.lines.proofs.window.skip.Tie as tie
-use Rattle.lines.proofs.window.skip.Reads as reads
-use Rattle.lines.proofs.window.skip.Lts as lts
-use Rattle.lines.proofs.window.ends_in_eight.Reads as ends-in-eight-reads
 
 abbrev Inv-loop : tie.InvT-loop
 Inv-loop s i₀ i = (i ≤ length s) × (upto s ≡ i + upto (drop i s))
