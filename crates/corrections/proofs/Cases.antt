@@ -19,7 +19,8 @@ use Rattle.rules.specs.Finding.{accepts}
 use Rattle.corrections.specs.Five.{fiveOf}
 use Rattle.corrections.specs.Outcome.{Outcome, refusal, success, unless, formReason, roomReason}
 use Rattle.corrections.specs.Completing.{completedBody, completedBy, completing}
-use Rattle.corrections.specs.Entries.{each, only, joined}
+use Rattle.ascii.specs.Area.{joined}
+use Rattle.corrections.specs.Entries.{each, only}
 use Rattle.corrections.specs.Corrections.{kept, fixesAt, replacements, exchanges, corrections}
 use Rattle.corrections.specs.Listing.{goodReason, listedNumber, listedText, listedBy, listing}
 

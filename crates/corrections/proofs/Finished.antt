@@ -1,6 +1,6 @@
 -- What is known of a completion or a listing that is done. Assumes nothing.
 use mathlib.Core.Path.{_≡_, refl, sym, ap, _∙_}
-use mathlib.Core.Bool.{Bool, true, false, cond}
+use mathlib.Core.Bool.{Bool, true, false}
 use mathlib.Core.List.{List}
 use Prim.Native.Nat.{ℕ, _≤_}
 use borrow.Author.Tests.{leb-true}
@@ -9,8 +9,9 @@ use lib.ListN.{length}
 use Rattle.ascii.specs.Pick.{pick}
 use Rattle.ascii.proofs.Tests.{false-true}
 use Rattle.answer.specs.declared.reason.Reason.{Reason}
-use Rattle.answer.specs.declared.reason.Reason.the-variants.{NoReason, Long, Utf8, Form as FormReason, Check, Zero, NoFigure, Scheme, Room, Good, Term, Line}
+use Rattle.answer.specs.declared.reason.Reason.the-variants.{NoReason, Form as FormReason, Scheme, Room, Good}
 use Rattle.answer.specs.Answers.{none, first}
+use Rattle.answer.proofs.Laws.{none-means}
 use Rattle.forms.specs.Form.{Form, fits}
 use Rattle.text.specs.Answer.{readableOf, normalText, textOf}
 use Rattle.rules.specs.declared.rule.Rule.{Rule}
@@ -36,21 +37,6 @@ one-answer o area r q x y v w = (v .says ∙ sym (w .says), v .now ∙ sym (w .n
 
 -- ---- no reason is given
 
-none-means : (r : Reason) → none r ≡ true → r ≡ NoReason
-unfolding none
-none-means NoReason e = refl
-none-means Long e = false-true e
-none-means Utf8 e = false-true e
-none-means FormReason e = false-true e
-none-means Check e = false-true e
-none-means Zero e = false-true e
-none-means NoFigure e = false-true e
-none-means Scheme e = false-true e
-none-means Room e = false-true e
-none-means Good e = false-true e
-none-means Term e = false-true e
-none-means Line e = false-true e
-
 means-none : (r : Reason) → r ≡ NoReason → none r ≡ true
 unfolding none
 means-none r e = rw e
@@ -68,10 +54,10 @@ done-none why o h = go (none why) refl h
     go false e q = means-none why q
 
 both-none : (a b : Reason) → none (first a b) ≡ true → (none a ≡ true) × (none b ≡ true)
-unfolding first
+unfolding first pick
 both-none a b h = go (none a) refl h
   where
-    go : (t : Bool) → none a ≡ t → none (cond t b a) ≡ true → (none a ≡ true) × (none b ≡ true)
+    go : (t : Bool) → none a ≡ t → none (pick t b a) ≡ true → (none a ≡ true) × (none b ≡ true)
     go true e q = (e, q)
     go false e q = false-true (sym e ∙ q)
 

@@ -11,11 +11,11 @@ use lib.ListN.{length, length-set}
 use lib.Seq.{getD-set-same, set-set}
 use Rattle.ascii.specs.Class.{isDigit, all}
 use Rattle.ascii.proofs.Tests.{false-true, not-true}
+use Rattle.figures.specs.Changes.{RefusesReplaced}
+use Rattle.figures.proofs.Detect.{gln-replaced, mod11-replaced, mod97-replaced, se-orgnr-replaced, abn-replaced}
 use Rattle.figures.proofs.Links.{gln-links, mod11-links, mod97-links, se-orgnr-links, abn-links}
 use Rattle.rules.specs.declared.rule.Rule.{Rule}
 use Rattle.rules.specs.Finding.{accepts}
-use Rattle.rules.specs.Detection.{RefusesReplaced}
-use Rattle.rules.proofs.Detection.{replaced-0088, replaced-0192, replaced-0208, replaced-0007, replaced-0151}
 use Rattle.corrections.specs.declared.five.Five.{Five}
 use Rattle.corrections.specs.declared.five.Five.the-variants.{Gln, Norway, Belgium, Sweden, Australia}
 use Rattle.corrections.specs.Five.{ruleOf}
@@ -33,12 +33,13 @@ kept-yes r t e = rw e
 
 -- ---- what the five rules have in common
 
-pub refuses : (k : Five) → RefusesReplaced (ruleOf k)
-refuses Gln = replaced-0088
-refuses Norway = replaced-0192
-refuses Belgium = replaced-0208
-refuses Sweden = replaced-0007
-refuses Australia = replaced-0151
+pub refuses : (k : Five) → RefusesReplaced (accepts (ruleOf k))
+unfolding accepts
+refuses Gln = gln-replaced
+refuses Norway = mod11-replaced
+refuses Belgium = mod97-replaced
+refuses Sweden = se-orgnr-replaced
+refuses Australia = abn-replaced
 
 pub accepted-digits : (k : Five) (t : List ℕ) → accepts (ruleOf k) t ≡ true → all isDigit t ≡ true
 unfolding accepts

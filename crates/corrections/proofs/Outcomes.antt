@@ -1,5 +1,5 @@
 -- Outcomes, reason by reason. Assumes nothing.
-use mathlib.Core.Path.{_≡_, refl}
+use mathlib.Core.Path.{_≡_, refl, sym}
 use mathlib.Core.Bool.{true, false}
 use mathlib.Core.List.{List, [], _∷_}
 use Prim.Native.Nat.{ℕ, _≤_, _<_}
@@ -7,16 +7,18 @@ use native.Mathlib.Omega.{arith}
 use borrow.Author.Tests.{le-leb, lt-leb}
 use lib.ListN.{length, set}
 use Rattle.ascii.specs.Pick.{pick}
+use Rattle.ascii.specs.Area.{put}
+use Rattle.ascii.proofs.Area.{put-nil, put-sets}
 use Rattle.answer.specs.declared.reason.Reason.{Reason}
 use Rattle.answer.specs.declared.reason.Reason.the-variants.{Form as FormReason, Room}
 use Rattle.answer.specs.Answers.{none, first}
 use Rattle.forms.specs.Form.{Form, fits}
 use Rattle.corrections.specs.declared.done.Done.{Done}
-use Rattle.corrections.specs.Outcome.{Outcome, refusedBy, refusal, unless, formReason, roomReason, over, Works}
+use Rattle.corrections.specs.Outcome.{Outcome, refusedBy, refusal, unless, formReason, roomReason, Works}
 
 -- nothing is written
 pub works-refused : {o : Outcome} {r : Done} (why : Reason) (a : List ℕ) → o ≡ refusal why → r ≡ refusedBy why → Works o a r a
-works-refused why a e q = record { says = rw e q; now = rw e }
+works-refused why a e q = record { says = rw e q; now = rw e (sym (put-nil a 0)) }
 
 -- ---- the first reason decides
 
@@ -54,11 +56,8 @@ before-room why need room o e = rw (e, e)
 
 -- ---- one byte or two at an area's start
 
-pub one-over : (a : List ℕ) (x : ℕ) → 2 ≤ length a → set a 0 x ≡ over (x ∷ []) a
-one-over [] x h = absurd (omega arith)
-one-over (b ∷ a) x h = refl
+pub one-put : (a : List ℕ) (x : ℕ) → 2 ≤ length a → set a 0 x ≡ put a 0 (x ∷ [])
+one-put a x h = put-sets a 0 (x ∷ []) (omega arith)
 
-pub two-over : (a : List ℕ) (x y : ℕ) → 2 ≤ length a → set (set a 0 x) 1 y ≡ over (x ∷ y ∷ []) a
-two-over [] x y h = absurd (omega arith)
-two-over (b ∷ []) x y h = absurd (omega arith)
-two-over (b ∷ c ∷ a) x y h = refl
+pub two-put : (a : List ℕ) (x y : ℕ) → 2 ≤ length a → set (set a 0 x) 1 y ≡ put a 0 (x ∷ y ∷ [])
+two-put a x y h = put-sets a 0 (x ∷ y ∷ []) (omega arith)

@@ -3,7 +3,7 @@ use mathlib.Core.Path.{_≡_, ap, _∙_}
 use mathlib.Core.Bool.{true, false}
 use mathlib.Core.List.{List}
 use Prim.Native.Nat.{ℕ, _+_, _-_, _*_, _/_, _≤_, _<_}
-use native.Mathlib.Nat.{mul-div-cancel}
+use native.Mathlib.Nat.{mul-div-cancel, zero-add}
 use lib.ListN.{length, length-set}
 use Rattle.ascii.specs.Pick.{pick}
 use Rattle.answer.specs.declared.reason.Reason.the-variants.{NoReason, Good, Room}
@@ -14,7 +14,8 @@ use Rattle.rules.specs.Finding.{accepts}
 use Rattle.corrections.specs.declared.five.Five.{Five}
 use Rattle.corrections.specs.Five.{ruleOf}
 use Rattle.corrections.specs.Outcome.{refusal, success, unless, Works}
-use Rattle.corrections.specs.Entries.{only, joined, Filling}
+use Rattle.ascii.specs.Area.{joined, Put}
+use Rattle.corrections.specs.Entries.{only}
 use Rattle.corrections.specs.Corrections.{kept, replaced, fixesAt, replacements, exchanges, corrections}
 use Rattle.corrections.specs.Listing.{roomFor, goodReason, listedNumber}
 use Rattle.corrections.proofs.Areas.{each-rows, joined-only, rows-append}
@@ -60,9 +61,9 @@ module _ (k : Five) (s : List ℕ) (room : ℕ) where
   listed-all e h = room-enough (goodReason (ruleOf k) s) (roomFor (length s)) room _ (refused-none e) h
 
 pub listed-done : (k : Five) (s a : List ℕ) (m r : ℕ) (after : List ℕ) → accepts (ruleOf k) s ≡ false → roomFor (length s) ≤ length a → 1 ≤ length s
-    → Filling (joined (corrections (ruleOf k) s)) m a r after
+    → Put m a 0 (joined (corrections (ruleOf k) s)) r after
     → Works (listedNumber k s (length a)) a (record { reason = NoReason; count = r / length s }) after
 listed-done k s a m r after e h l p =
     let rows = corrections (ruleOf k) s in
-    let q : r / length s ≡ length rows = ap (λ x. x / length s) (p .end ∙ corrections-rows (ruleOf k) s) ∙ mul-div-cancel (length rows) l in
+    let q : r / length s ≡ length rows = ap (λ x. x / length s) (p .ends ∙ zero-add _ ∙ corrections-rows (ruleOf k) s) ∙ mul-div-cancel (length rows) l in
     record { says = rw (listed-all k s (length a) e h, q); now = rw (listed-all k s (length a) e h) (p .now) }

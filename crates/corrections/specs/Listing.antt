@@ -15,7 +15,7 @@ use Rattle.corrections.specs.declared.five.Five.{Five}
 use Rattle.corrections.specs.declared.five.Five.the-variants.{Gln, Norway, Belgium, Sweden, Australia}
 use Rattle.corrections.specs.Five.{ruleOf, fiveOf}
 use Rattle.corrections.specs.Outcome.{Outcome, success, unless, forFive, formReason, roomReason}
-use Rattle.corrections.specs.Entries.{joined}
+use Rattle.ascii.specs.Area.{joined}
 use Rattle.corrections.specs.Corrections.{corrections}
 
 -- how many digits a number has: 0088 from 1 to 20, the others as many as their rule asks

@@ -16,7 +16,7 @@ use Rattle.corrections.specs.declared.five.Known.the-variants.{One}
 use Rattle.corrections.specs.Five.{ruleOf, fiveOf}
 use Rattle.corrections.specs.Outcome.{success}
 use Rattle.corrections.specs.Completing.{figureFor, numberOf, noFigure, completing}
-use Rattle.corrections.specs.Entries.{joined}
+use Rattle.ascii.specs.Area.{joined}
 use Rattle.corrections.specs.Listing.{roomFor, listing}
 
 -- ---- completing

@@ -3,7 +3,7 @@ use mathlib.Core.Path.{_≡_}
 use mathlib.Core.List.{List, []}
 use Prim.Native.Nat.{ℕ}
 use lib.Dec.{leb}
-pub use Rattle.ascii.specs.Area.{over}
+use Rattle.ascii.specs.Area.{put}
 use Rattle.ascii.specs.Pick.{pick}
 use Rattle.answer.specs.declared.reason.Reason.{Reason}
 use Rattle.answer.specs.declared.reason.Reason.the-variants.{NoReason, Form as FormReason, Scheme, Room}
@@ -47,4 +47,4 @@ roomReason required room = pick (leb required room) NoReason Room
 -- the answer r, and the area after it, are those of an outcome
 pub record Works (o : Outcome) (area : List ℕ) (r : Done) (after : List ℕ) : Type 0 where
   pub says : r ≡ o .says
-  pub now : after ≡ over (o .writes) area
+  pub now : after ≡ put area 0 (o .writes)

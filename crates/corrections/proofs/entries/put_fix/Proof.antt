@@ -5,7 +5,7 @@ use denote.Ref.{now}
 use lib.ListN.{length, length-set}
 use borrow.Author.Tests.{lt-ltb, le-ltb}
 use Rattle.corrections.specs.Entries.{only}
-use Rattle.corrections.proofs.Areas.{put-row, put-none}
+use Rattle.corrections.proofs.Areas.{put-row, put-no-row}
 use native.Mathlib.Omega.{arith}
 use borrow.Author.Needs.{needs}
 use Rattle.corrections.proofs.entries.put_fix.Statement.{statement}
@@ -47,7 +47,7 @@ returns c =
 
 returns-2 : tie.Need-returns-2
 unfolding only
-returns-2 c = put-none _ _ _ _ (c .before .digit-at .ensures ∙ rw (le-ltb _ 10 (c .if1 .left)))
+returns-2 c = put-no-row _ _ _ _ (c .before .digit-at .ensures ∙ rw (le-ltb _ 10 (c .if1 .left)))
 
 pub put-fix-spec : {M : Type 1} → statement M
 put-fix-spec = tie.close (tie.spec digit-at-requires add-b cast-b add-e sub-put-replaced part-put-replaced-start part-put-replaced-end put-replaced-requires same-length returns returns-2)
