@@ -11,7 +11,7 @@ use lib.ListN.{length, take, drop, length-append}
 use lib.Seq.{drop-drop}
 use Rattle.ascii.specs.Area.{joined, put, Put}
 use Rattle.ascii.proofs.Area.{put-none, put-more, put-size}
-use Rattle.corrections.specs.Entries.{each, only}
+use Rattle.corrections.specs.Corrections.{each, only}
 
 -- ---- joined
 

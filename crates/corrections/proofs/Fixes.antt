@@ -19,17 +19,16 @@ use Rattle.rules.specs.Finding.{accepts}
 use Rattle.corrections.specs.declared.five.Five.{Five}
 use Rattle.corrections.specs.declared.five.Five.the-variants.{Gln, Norway, Belgium, Sweden, Australia}
 use Rattle.corrections.specs.Five.{ruleOf}
-use Rattle.corrections.specs.Entries.{only}
-use Rattle.corrections.specs.Corrections.{kept, replaced, fixesAt}
+use Rattle.corrections.specs.Corrections.{only, ifAccepted, replaced, fixesAt}
 use Rattle.corrections.proofs.Areas.{each-none, each-one}
 
-pub kept-no : (r : Rule) (t : List ℕ) → accepts r t ≡ false → kept r t ≡ []
-unfolding kept only
-kept-no r t e = rw e
+pub accepted-no : (r : Rule) (t : List ℕ) → accepts r t ≡ false → ifAccepted r t ≡ []
+unfolding ifAccepted only
+accepted-no r t e = rw e
 
-pub kept-yes : (r : Rule) (t : List ℕ) → accepts r t ≡ true → kept r t ≡ t ∷ []
-unfolding kept only
-kept-yes r t e = rw e
+pub accepted-yes : (r : Rule) (t : List ℕ) → accepts r t ≡ true → ifAccepted r t ≡ t ∷ []
+unfolding ifAccepted only
+accepted-yes r t e = rw e
 
 -- ---- what the five rules have in common
 
@@ -67,12 +66,12 @@ module _ (k : Five) (s : List ℕ) (i : ℕ) where
   pub fixes-hit : (d : ℕ) → i < length s → d < 10 → accepts (ruleOf k) (replaced s i d) ≡ true → fixesAt (ruleOf k) s i ≡ only (ltb d 10) (replaced s i d)
   unfolding fixesAt only
   fixes-hit d h hd e =
-      each-one 10 (λ x. kept (ruleOf k) (replaced s i x)) d hd
-      (λ x hx ne. kept-no (ruleOf k) (replaced s i x) (not-true (accepts (ruleOf k) (replaced s i x)) (λ y. ne (replaced-one x d h y e))))
-      ∙ kept-yes (ruleOf k) (replaced s i d) e
+      each-one 10 (λ x. ifAccepted (ruleOf k) (replaced s i x)) d hd
+      (λ x hx ne. accepted-no (ruleOf k) (replaced s i x) (not-true (accepts (ruleOf k) (replaced s i x)) (λ y. ne (replaced-one x d h y e))))
+      ∙ accepted-yes (ruleOf k) (replaced s i d) e
       ∙ rw (lt-ltb d 10 hd)
 
   pub fixes-none : (d : ℕ) → 10 ≤ d → ((x : ℕ) → x < 10 → accepts (ruleOf k) (replaced s i x) ≡ false) → fixesAt (ruleOf k) s i ≡ only (ltb d 10) (replaced s i d)
   unfolding fixesAt only
   fixes-none d hd none =
-      each-none 10 (λ x. kept (ruleOf k) (replaced s i x)) (λ x hx. kept-no (ruleOf k) (replaced s i x) (none x hx)) ∙ rw (le-ltb d 10 hd)
+      each-none 10 (λ x. ifAccepted (ruleOf k) (replaced s i x)) (λ x hx. accepted-no (ruleOf k) (replaced s i x) (none x hx)) ∙ rw (le-ltb d 10 hd)

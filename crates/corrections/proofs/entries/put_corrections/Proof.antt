@@ -4,8 +4,7 @@ use denote.Ref.{now}
 use lib.ListN.{length}
 use Rattle.ascii.proofs.Area.{put-more}
 use Rattle.corrections.specs.Corrections.{corrections}
-use Rattle.corrections.proofs.Exact.{number-digits}
-use Rattle.corrections.proofs.Totals.{least-1}
+use Rattle.corrections.proofs.Exact.{number-digits, least-1}
 use Rattle.corrections.proofs.Areas.{joined-append, room-split}
 use native.Mathlib.Omega.{arith}
 use borrow.Author.Needs.{needs}

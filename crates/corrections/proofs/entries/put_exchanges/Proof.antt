@@ -4,7 +4,7 @@ use denote.Ref.{now}
 use lib.ListN.{length}
 use Rattle.figures.specs.Changes.{exchanged}
 use Rattle.corrections.specs.Five.{ruleOf}
-use Rattle.corrections.specs.Corrections.{kept, exchanges}
+use Rattle.corrections.specs.Corrections.{ifAccepted, exchanges}
 use Rattle.corrections.proofs.Areas.{Filled, fill-none, next-fits, fill-more, fill-all}
 use native.Mathlib.Omega.{arith}
 use borrow.Author.Needs.{needs}
@@ -12,7 +12,7 @@ use Rattle.corrections.proofs.entries.put_exchanges.Statement.{statemen
 use Rattle.corrections.proofs.entries.put_exchanges.Tie as tie
 
 abbrev Inv-loop : tie.InvT-loop
-Inv-loop kind weights s sum out₀ from at₀ i₀ out at i = (i ≤ length s - 1) × Filled (λ j. kept (ruleOf kind) (exchanged s j)) (length s) out₀ from i at out
+Inv-loop kind weights s sum out₀ from at₀ i₀ out at i = (i ≤ length s - 1) × Filled (λ j. ifAccepted (ruleOf kind) (exchanged s j)) (length s) out₀ from i at out
 
 abbrev μ-loop : tie.MeasureT-loop
 μ-loop kind weights s sum out₀ from at₀ i₀ out at i = length s - i
