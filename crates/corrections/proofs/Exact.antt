@@ -14,14 +14,18 @@ use Rattle.ascii.proofs.Tests.{eqb-iff, below-at}
 use Rattle.ascii.proofs.Class.{digit-bounds, digit-inside, all-first, all-rest, all-drop}
 use Rattle.forms.specs.declared.form.Fault.{Fault}
 use Rattle.forms.specs.declared.form.Fault.the-variants.{Fits}
-use Rattle.forms.proofs.OfDigits.{Digits, digits-true, fit-digits}
+use Rattle.forms.proofs.OfDigits.{Digits, digits-fit, fit-digits}
 use Rattle.figures.specs.Total.{total, digitAt, number}
-use Rattle.figures.specs.Figures.{totalBy, right, figure40, figure41, luhn, figure50}
+use Rattle.figures.specs.Figures.{weightAt, counted, adds, totalBy, right, figure40, figure41, belgianPair, luhn, figure50}
+use Rattle.figures.specs.Inner.{figureBy, totalPasses}
+use Rattle.figures.specs.declared.kind.Kind.{Kind}
+use Rattle.figures.specs.declared.kind.Kind.the-variants.{Mod97}
 use Rattle.figures.specs.Findings.{isGood, judgedZero}
 use Rattle.figures.specs.Rules.{gln, mod11, mod97, seOrgnr, abn, abnTotal, allZero}
 use Rattle.figures.specs.Changes.{exchanged}
 use Rattle.figures.proofs.Judging.{good-by}
-use Rattle.figures.proofs.Digits.{all-set}
+use Rattle.figures.proofs.Digits.{all-set, by-powers}
+use Rattle.figures.proofs.Adding.{adds-zero, total-small}
 use Rattle.figures.proofs.Zeros.{zeros41}
 use Rattle.figures.proofs.Shift.{total-set, total-exchanged}
 use Rattle.figures.proofs.Links.{join, total-reduced, leaves-ten, ten-leaves}
@@ -29,11 +33,9 @@ use Rattle.figures.proofs.Detect.{digits-exchanged}
 use Rattle.rules.specs.Finding.{accepts}
 use Rattle.corrections.specs.declared.five.Five.{Five}
 use Rattle.corrections.specs.declared.five.Five.the-variants.{Gln, Norway, Belgium, Sweden, Australia}
-use Rattle.corrections.specs.Five.{ruleOf}
+use Rattle.corrections.specs.Five.{row, ruleOf}
 use Rattle.corrections.specs.Corrections.{replaced}
-use Rattle.corrections.specs.Listing.{leastOf, mostOf}
-use Rattle.corrections.specs.Totals.{share, passes, Summed}
-use Rattle.corrections.proofs.Totals.{most-20, share-small, share-zero}
+use Rattle.corrections.specs.Inner.{addsBy, Summed}
 
 -- ---- 0208: the number itself, and its first eight and last two digits
 
@@ -65,7 +67,7 @@ below-hundred (a ∷ b ∷ []) n h =
     omega arith
 below-hundred (a ∷ b ∷ c ∷ s) n h = absurd (omega arith)
 
-apart : (t x y : ℕ) → t ≡ 100 * x + y → y < 100 → eqb y (97 - x % 97) ≡ eqb (t % 100) (97 - t / 100 % 97)
+apart : (t x y : ℕ) → t ≡ 100 * x + y → y < 100 → eqb y (belgianPair x) ≡ eqb (t % 100) (belgianPair (t / 100))
 apart t x y e l =
     let p : t % 100 ≡ y = omega arith in
     let q : t / 100 ≡ x = omega arith in
@@ -77,8 +79,8 @@ zero-first : {y : Fault} (z x : Bool) → y ≡ Fits → isGood (judgedZero y z 
 zero-first true x h = rw h
 zero-first false x h = rw h (good-by x refl)
 
-pub exact : (k : Five) (s : List ℕ) → Digits (leastOf k) (mostOf k) s → accepts (ruleOf k) s ≡ passes k (total (share k) s)
-unfolding accepts share gln mod11 mod97 seOrgnr abn
+pub exact : (k : Five) (s : List ℕ) → Digits (row k .least) (row k .most) s → accepts (ruleOf k) s ≡ totalPasses (row k .figure) (totalBy (addsBy k) s)
+unfolding accepts gln mod11 mod97 seOrgnr abn
 exact Gln s d =
     good-by (right figure40 s) (fit-digits 1 1024 s (record { least = d .least; most = omega (arith, d .most); digit = d .digit }))
 exact Norway s d =
@@ -86,9 +88,10 @@ exact Norway s d =
     ∙ ap (λ z. not z && right figure41 s) (sym (zeros41 s (d .digit)))
 exact Belgium s d =
     let n : length s ≡ 10 = omega (arith, d .least, d .most) in
-    good-by (eqb (number (drop 8 s)) (97 - number (take 8 s) % 97)) (fit-digits 10 10 s d)
+    good-by (eqb (number (drop 8 s)) (belgianPair (number (take 8 s)))) (fit-digits 10 10 s d)
     ∙ apart (number s) (number (take 8 s)) (number (drop 8 s)) (eight-two s n)
     (below-hundred (drop 8 s) (omega (arith, length-drop 8 s)) (all-drop isDigit 8 s (d .digit)))
+    ∙ ap (totalPasses Mod97) (sym (by-powers s (d .most)))
 exact Sweden s d = good-by (right luhn s) (fit-digits 10 10 s d)
 exact Australia s d =
     let n : length s ≡ 11 = omega (arith, d .least, d .most) in
@@ -97,62 +100,73 @@ exact Australia s d =
     ∙ ap (λ z. eqb (natAbs z % 89) 0) (total-reduced s n)
     ∙ eqb-iff (natAbs (subℕ t 10) % 89) 0 (t % 89) 10 (leaves-ten t) (ten-leaves t)
 
--- ---- totals are small
+-- ---- the lengths of a number
 
-total-small : (k : Five) (s : List ℕ) → all isDigit s ≡ true → length s ≤ mostOf k → total (share k) s ≤ 9000000000 * length s
-total-small k [] h l = omega arith
-total-small k (b ∷ s) h l =
-    let d = digit-bounds b (all-first isDigit b s h) in
-    omega (arith, share-small k (length s) (b - 48) (omega arith) (omega arith), total-small k s (all-rest isDigit b s h) (omega arith))
+pub most-20 : (k : Five) → row k .most ≤ 20
+most-20 Gln = omega arith
+most-20 Norway = omega arith
+most-20 Belgium = omega arith
+most-20 Sweden = omega arith
+most-20 Australia = omega arith
+
+pub least-1 : (k : Five) → 1 ≤ row k .least
+least-1 Gln = omega arith
+least-1 Norway = omega arith
+least-1 Belgium = omega arith
+least-1 Sweden = omega arith
+least-1 Australia = omega arith
 
 -- ---- the tests that the code makes
 
-module _ (k : Five) (s : List ℕ) (sum : ℕ) (p : Summed k s sum) where
-  pub number-digits : Digits (leastOf k) (mostOf k) s
-  number-digits = digits-true (leastOf k) (mostOf k) s (p .formed)
+-- what the digit d adds with j digits to its right
+abbrev pub sharing : Five → ℕ → ℕ → ℕ
+sharing k j d = adds (addsBy k .fold) (addsBy k .weights) j d
 
-  pub sum-small : sum ≤ 180000000000
+-- as the code asks for it, by a weight that it looked up
+pub shared : (k : Five) (f : Kind) (ws : List ℕ) (j w d : ℕ) {r : ℕ} → f ≡ row k .figure → ws ≡ addsBy k .weights → w ≡ weightAt ws j
+    → r ≡ counted (figureBy f .fold) (w * d) → r ≡ sharing k j d
+shared k f ws j w d g e q h = h ∙ ap (λ z. counted (figureBy z .fold) (w * d)) g ∙ ap (λ x. counted (addsBy k .fold) (x * d)) (q ∙ ap (λ l. weightAt l j) e)
+
+module _ (k : Five) (s : List ℕ) (sum : ℕ) (p : Summed k s sum) where
+  pub number-digits : Digits (row k .least) (row k .most) s
+  number-digits = digits-fit (row k .least) (row k .most) s (p .formed)
+
+  pub sum-small : sum ≤ 773094113280
   sum-small =
       let d = number-digits in
-      omega (arith, total-small k s (d .digit) (d .most), d .most, most-20 k, p .sum-is)
+      omega (arith, total-small (row k .figure) s (d .digit), d .most, most-20 k, p .sum-is)
 
-  pub number-passes : passes k sum ≡ accepts (ruleOf k) s
-  number-passes = ap (passes k) (p .sum-is) ∙ sym (exact k s number-digits)
+  pub number-passes : totalPasses (row k .figure) sum ≡ accepts (ruleOf k) s
+  number-passes = ap (totalPasses (row k .figure)) (p .sum-is) ∙ sym (exact k s number-digits)
 
-  digits-set : (i v : ℕ) → isDigit v ≡ true → Digits (leastOf k) (mostOf k) (set s i v)
+  digits-set : (i v : ℕ) → isDigit v ≡ true → Digits (row k .least) (row k .most) (set s i v)
   digits-set i v e =
       let d = number-digits in
       let n = length-set s i v in
       record { least = omega (arith, d .least); most = omega (arith, d .most); digit = all-set s i v (d .digit) e }
 
-  module _ (i was : ℕ) (h : i < length s) (e : was ≡ share k (length s - 1 - i) (digitAt s i)) where
+  module _ (i was : ℕ) (h : i < length s) (e : was ≡ sharing k (length s - 1 - i) (digitAt s i)) where
     -- the sum has the digit's share in it
     pub share-within : was ≤ sum
-    share-within = omega (arith, total-set (share k) s i 48 h, share-zero k (length s - 1 - i), p .sum-is)
+    share-within = omega (arith, total-set (sharing k) s i 48 h, adds-zero (addsBy k .fold) (addsBy k .weights) (length s - 1 - i), p .sum-is)
 
-    pub replaced-test : (d new : ℕ) → d < 10 → new ≡ share k (length s - 1 - i) d → passes k (sum - was + new) ≡ accepts (ruleOf k) (replaced s i d)
+    pub replaced-test : (d new : ℕ) → d < 10 → new ≡ sharing k (length s - 1 - i) d → totalPasses (row k .figure) (sum - was + new) ≡ accepts (ruleOf k) (replaced s i d)
     replaced-test d new l q =
         let z : 48 + d - 48 ≡ d = omega arith in
-        let t = rw z at (total-set (share k) s i (48 + d) h) in
-        let v : sum - was + new ≡ total (share k) (replaced s i d) = omega (arith, p .sum-is, share-within) in
-        ap (passes k) v ∙ sym (exact k (replaced s i d) (digits-set i (48 + d) (digit-inside (48 + d) (omega arith) (omega arith))))
+        let t = rw z at (total-set (sharing k) s i (48 + d) h) in
+        let v : sum - was + new ≡ totalBy (addsBy k) (replaced s i d) = omega (arith, p .sum-is, share-within) in
+        ap (totalPasses (row k .figure)) v ∙ sym (exact k (replaced s i d) (digits-set i (48 + d) (digit-inside (48 + d) (omega arith) (omega arith))))
 
-  module _ (i a b w1 w2 n1 n2 : ℕ) (h : i + 1 < length s) (qa : a ≡ digitAt s i) (qb : b ≡ digitAt s (i + 1))
-      (r1 : w1 ≡ share k (length s - 1 - i) a) (r2 : w2 ≡ share k (length s - 1 - (i + 1)) b)
-      (r3 : n1 ≡ share k (length s - 1 - i) b) (r4 : n2 ≡ share k (length s - 1 - (i + 1)) a) where
-    change : total (share k) (exchanged s i) + (w1 + w2) ≡ sum + (n1 + n2)
-    change =
-        let t = total-exchanged (share k) s i h in
-        let v1 = rw qa at r1 in
-        let v2 = rw qb at r2 in
-        let v3 = rw qb at r3 in
-        let v4 = rw qa at r4 in
-        omega (arith, p .sum-is)
+  module _ (i v1 v2 n1 n2 : ℕ) (h : i + 1 < length s)
+      (r1 : v1 ≡ sharing k (length s - 1 - i) (digitAt s i)) (r2 : v2 ≡ sharing k (length s - 1 - (i + 1)) (digitAt s (i + 1)))
+      (r3 : n1 ≡ sharing k (length s - 1 - i) (digitAt s (i + 1))) (r4 : n2 ≡ sharing k (length s - 1 - (i + 1)) (digitAt s i)) where
+    change : totalBy (addsBy k) (exchanged s i) + (v1 + v2) ≡ sum + (n1 + n2)
+    change = omega (arith, total-exchanged (sharing k) s i h, p .sum-is)
 
-    pub shares-within : w1 + w2 ≤ sum + (n1 + n2)
+    pub shares-within : v1 + v2 ≤ sum + (n1 + n2)
     shares-within = omega (arith, change)
 
-    pub exchanged-test : passes k (sum + (n1 + n2) - (w1 + w2)) ≡ accepts (ruleOf k) (exchanged s i)
+    pub exchanged-test : totalPasses (row k .figure) (sum + (n1 + n2) - (v1 + v2)) ≡ accepts (ruleOf k) (exchanged s i)
     exchanged-test =
-        let v : sum + (n1 + n2) - (w1 + w2) ≡ total (share k) (exchanged s i) = omega (arith, change) in
-        ap (passes k) v ∙ sym (exact k (exchanged s i) (digits-exchanged (leastOf k) (mostOf k) s i number-digits h))
+        let v : sum + (n1 + n2) - (v1 + v2) ≡ totalBy (addsBy k) (exchanged s i) = omega (arith, change) in
+        ap (totalPasses (row k .figure)) v ∙ sym (exact k (exchanged s i) (digits-exchanged (row k .least) (row k .most) s i number-digits h))

@@ -11,34 +11,34 @@ use lib.ListN.{length, length-set}
 use lib.Seq.{getD-set-same, set-set}
 use Rattle.ascii.specs.Class.{isDigit, all}
 use Rattle.ascii.proofs.Tests.{false-true, not-true}
+use Rattle.figures.specs.Changes.{RefusesReplaced}
+use Rattle.figures.proofs.Detect.{gln-replaced, mod11-replaced, mod97-replaced, se-orgnr-replaced, abn-replaced}
 use Rattle.figures.proofs.Links.{gln-links, mod11-links, mod97-links, se-orgnr-links, abn-links}
 use Rattle.rules.specs.declared.rule.Rule.{Rule}
 use Rattle.rules.specs.Finding.{accepts}
-use Rattle.rules.specs.Detection.{RefusesReplaced}
-use Rattle.rules.proofs.Detection.{replaced-0088, replaced-0192, replaced-0208, replaced-0007, replaced-0151}
 use Rattle.corrections.specs.declared.five.Five.{Five}
 use Rattle.corrections.specs.declared.five.Five.the-variants.{Gln, Norway, Belgium, Sweden, Australia}
 use Rattle.corrections.specs.Five.{ruleOf}
-use Rattle.corrections.specs.Entries.{only}
-use Rattle.corrections.specs.Corrections.{kept, replaced, fixesAt}
+use Rattle.corrections.specs.Corrections.{only, ifAccepted, replaced, fixesAt}
 use Rattle.corrections.proofs.Areas.{each-none, each-one}
 
-pub kept-no : (r : Rule) (t : List ℕ) → accepts r t ≡ false → kept r t ≡ []
-unfolding kept only
-kept-no r t e = rw e
+pub accepted-no : (r : Rule) (t : List ℕ) → accepts r t ≡ false → ifAccepted r t ≡ []
+unfolding ifAccepted only
+accepted-no r t e = rw e
 
-pub kept-yes : (r : Rule) (t : List ℕ) → accepts r t ≡ true → kept r t ≡ t ∷ []
-unfolding kept only
-kept-yes r t e = rw e
+pub accepted-yes : (r : Rule) (t : List ℕ) → accepts r t ≡ true → ifAccepted r t ≡ t ∷ []
+unfolding ifAccepted only
+accepted-yes r t e = rw e
 
 -- ---- what the five rules have in common
 
-pub refuses : (k : Five) → RefusesReplaced (ruleOf k)
-refuses Gln = replaced-0088
-refuses Norway = replaced-0192
-refuses Belgium = replaced-0208
-refuses Sweden = replaced-0007
-refuses Australia = replaced-0151
+pub refuses : (k : Five) → RefusesReplaced (accepts (ruleOf k))
+unfolding accepts
+refuses Gln = gln-replaced
+refuses Norway = mod11-replaced
+refuses Belgium = mod97-replaced
+refuses Sweden = se-orgnr-replaced
+refuses Australia = abn-replaced
 
 pub accepted-digits : (k : Five) (t : List ℕ) → accepts (ruleOf k) t ≡ true → all isDigit t ≡ true
 unfolding accepts
@@ -66,12 +66,12 @@ module _ (k : Five) (s : List ℕ) (i : ℕ) where
   pub fixes-hit : (d : ℕ) → i < length s → d < 10 → accepts (ruleOf k) (replaced s i d) ≡ true → fixesAt (ruleOf k) s i ≡ only (ltb d 10) (replaced s i d)
   unfolding fixesAt only
   fixes-hit d h hd e =
-      each-one 10 (λ x. kept (ruleOf k) (replaced s i x)) d hd
-      (λ x hx ne. kept-no (ruleOf k) (replaced s i x) (not-true (accepts (ruleOf k) (replaced s i x)) (λ y. ne (replaced-one x d h y e))))
-      ∙ kept-yes (ruleOf k) (replaced s i d) e
+      each-one 10 (λ x. ifAccepted (ruleOf k) (replaced s i x)) d hd
+      (λ x hx ne. accepted-no (ruleOf k) (replaced s i x) (not-true (accepts (ruleOf k) (replaced s i x)) (λ y. ne (replaced-one x d h y e))))
+      ∙ accepted-yes (ruleOf k) (replaced s i d) e
       ∙ rw (lt-ltb d 10 hd)
 
   pub fixes-none : (d : ℕ) → 10 ≤ d → ((x : ℕ) → x < 10 → accepts (ruleOf k) (replaced s i x) ≡ false) → fixesAt (ruleOf k) s i ≡ only (ltb d 10) (replaced s i d)
   unfolding fixesAt only
   fixes-none d hd none =
-      each-none 10 (λ x. kept (ruleOf k) (replaced s i x)) (λ x hx. kept-no (ruleOf k) (replaced s i x) (none x hx)) ∙ rw (le-ltb d 10 hd)
+      each-none 10 (λ x. ifAccepted (ruleOf k) (replaced s i x)) (λ x hx. accepted-no (ruleOf k) (replaced s i x) (none x hx)) ∙ rw (le-ltb d 10 hd)

@@ -6,7 +6,7 @@ use Prim.Native.Nat.{ℕ, zero, suc, _≤_, _<_}
 use native.Mathlib.Omega.{arith}
 use native.Mathlib.Decide.{ℕ-discrete}
 use lib.ListN.{length, length-append}
-use Rattle.corrections.specs.Entries.{each}
+use Rattle.corrections.specs.Corrections.{each}
 use Rattle.corrections.specs.Meaning.{Once}
 
 abbrev pub In : List ℕ → List (List ℕ) → Type 0

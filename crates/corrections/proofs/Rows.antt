@@ -1,68 +1,70 @@
 -- The entries of a list are rows of one length, so that their bytes count them; and what a listing answers. Assumes nothing.
-use mathlib.Core.Path.{_≡_, ap, _∙_}
+use mathlib.Core.Path.{_≡_, refl, sym, ap, _∙_}
 use mathlib.Core.Bool.{true, false}
 use mathlib.Core.List.{List}
-use Prim.Native.Nat.{ℕ, _+_, _-_, _*_, _/_, _≤_, _<_}
-use native.Mathlib.Nat.{mul-div-cancel}
+use Prim.Native.Nat.{ℕ, _+_, _-_, _*_, _/_, _≤_}
+use native.Mathlib.Nat.{mul-div-cancel, zero-add}
 use lib.ListN.{length, length-set}
-use Rattle.ascii.specs.Pick.{pick}
-use Rattle.answer.specs.declared.reason.Reason.the-variants.{NoReason, Good, Room}
-use Rattle.answer.specs.Answers.{none, first}
+use Rattle.ascii.specs.Area.{joined, Put}
+use Rattle.ascii.proofs.Tests.{false-true}
+use Rattle.answer.specs.declared.reason.Reason.the-variants.{NoReason, Form as FormReason, Good as GoodReason}
+use Rattle.forms.specs.Form.{faultOf, isFit}
+use Rattle.forms.specs.declared.form.Fault.{Fault}
+use Rattle.forms.specs.declared.form.Fault.the-variants.{Fits, Length, At}
 use Rattle.figures.specs.Changes.{exchanged}
+use Rattle.figures.specs.Findings.{judged}
 use Rattle.rules.specs.declared.rule.Rule.{Rule}
 use Rattle.rules.specs.Finding.{accepts}
 use Rattle.corrections.specs.declared.five.Five.{Five}
-use Rattle.corrections.specs.Five.{ruleOf}
-use Rattle.corrections.specs.Outcome.{refusal, success, unless, Works}
-use Rattle.corrections.specs.Entries.{only, joined, Filling}
-use Rattle.corrections.specs.Corrections.{kept, replaced, fixesAt, replacements, exchanges, corrections}
-use Rattle.corrections.specs.Listing.{roomFor, goodReason, listedNumber}
+use Rattle.corrections.specs.Five.{ruleOf, numberForm}
+use Rattle.corrections.specs.Outcome.{Outcome, refusedWith, success, Works}
+use Rattle.corrections.specs.Corrections.{only, ifAccepted, replaced, fixesAt, replacements, exchanges, corrections}
+use Rattle.corrections.specs.Listing.{numberFound, roomFor, entriesOf, listedBy}
 use Rattle.corrections.proofs.Areas.{each-rows, joined-only, rows-append}
-use Rattle.corrections.proofs.Outcomes.{room-short, room-enough}
+use Rattle.corrections.proofs.Outcomes.{room-enough}
 
 module _ (r : Rule) (s : List ℕ) where
-  kept-rows : (t : List ℕ) (n : ℕ) → length t ≡ n → length (joined (kept r t)) ≡ length (kept r t) * n
-  unfolding kept
-  kept-rows t n e = joined-only (accepts r t) t ∙ ap (λ (k : ℕ). length (only (accepts r t) t) * k) e
+  accepted-rows : (t : List ℕ) (n : ℕ) → length t ≡ n → length (joined (ifAccepted r t)) ≡ length (ifAccepted r t) * n
+  unfolding ifAccepted
+  accepted-rows t n e = joined-only (accepts r t) t ∙ ap (λ (k : ℕ). length (only (accepts r t) t) * k) e
 
   replacements-rows : length (joined (replacements r s)) ≡ length (replacements r s) * length s
   unfolding replacements fixesAt
   replacements-rows =
       each-rows (length s) (length s) (fixesAt r s)
-      (λ i h. each-rows 10 (length s) (λ d. kept r (replaced s i d)) (λ d k. kept-rows (replaced s i d) (length s) (length-set s i (48 + d))))
+      (λ i h. each-rows 10 (length s) (λ d. ifAccepted r (replaced s i d)) (λ d k. accepted-rows (replaced s i d) (length s) (length-set s i (48 + d))))
 
   exchanges-rows : length (joined (exchanges r s)) ≡ length (exchanges r s) * length s
   unfolding exchanges
-  exchanges-rows = each-rows (length s - 1) (length s) (λ i. kept r (exchanged s i)) (λ i h. kept-rows (exchanged s i) (length s) (simp length-set))
+  exchanges-rows = each-rows (length s - 1) (length s) (λ i. ifAccepted r (exchanged s i)) (λ i h. accepted-rows (exchanged s i) (length s) (simp length-set))
 
   pub corrections-rows : length (joined (corrections r s)) ≡ length (corrections r s) * length s
   unfolding corrections
   corrections-rows = rows-append (replacements r s) (exchanges r s) (length s) replacements-rows exchanges-rows
 
--- ---- what a listing of a number of the right form answers
+-- ---- what a listing of a number answers
 
-module _ (k : Five) (s : List ℕ) (room : ℕ) where
-  pub listed-good : accepts (ruleOf k) s ≡ true → listedNumber k s room ≡ refusal Good
-  unfolding listedNumber goodReason first unless none pick
-  listed-good e = rw e
+module _ (k : Five) (s : List ℕ) (o : Outcome) where
+  pub listed-unfit : isFit (faultOf (numberForm k) s) ≡ false → listedBy (numberFound k s) o ≡ refusedWith FormReason
+  listed-unfit h = go (faultOf (numberForm k) s) h
+    where
+      go : (y : Fault) → isFit y ≡ false → listedBy (judged y (accepts (ruleOf k) s)) o ≡ refusedWith FormReason
+      go Fits e = false-true (sym e)
+      go Length e = refl
+      go (At i) e = refl
 
-  refused-none : accepts (ruleOf k) s ≡ false → none (goodReason (ruleOf k) s) ≡ true
-  unfolding goodReason none pick
-  refused-none e = rw e
+  pub listed-good : faultOf (numberForm k) s ≡ Fits → accepts (ruleOf k) s ≡ true → listedBy (numberFound k s) o ≡ refusedWith GoodReason
+  listed-good f e = rw (f, e)
 
-  pub listed-room : accepts (ruleOf k) s ≡ false → room < roomFor (length s) → listedNumber k s room ≡ refusal Room
-  unfolding listedNumber
-  listed-room e h = room-short (goodReason (ruleOf k) s) (roomFor (length s)) room _ (refused-none e) h
+  pub listed-wrong : faultOf (numberForm k) s ≡ Fits → accepts (ruleOf k) s ≡ false → listedBy (numberFound k s) o ≡ o
+  listed-wrong f e = rw (f, e)
 
-  pub listed-all : accepts (ruleOf k) s ≡ false → roomFor (length s) ≤ room
-      → listedNumber k s room ≡ success (length (corrections (ruleOf k) s)) (joined (corrections (ruleOf k) s))
-  unfolding listedNumber
-  listed-all e h = room-enough (goodReason (ruleOf k) s) (roomFor (length s)) room _ (refused-none e) h
-
-pub listed-done : (k : Five) (s a : List ℕ) (m r : ℕ) (after : List ℕ) → accepts (ruleOf k) s ≡ false → roomFor (length s) ≤ length a → 1 ≤ length s
-    → Filling (joined (corrections (ruleOf k) s)) m a r after
-    → Works (listedNumber k s (length a)) a (record { reason = NoReason; count = r / length s }) after
-listed-done k s a m r after e h l p =
+pub entries-done : (k : Five) (s a : List ℕ) (m r : ℕ) (after : List ℕ) → roomFor (length s) ≤ length a → 1 ≤ length s
+    → Put m a 0 (joined (corrections (ruleOf k) s)) r after
+    → Works (entriesOf k s (length a)) a (record { reason = NoReason; count = r / length s }) after
+unfolding entriesOf
+entries-done k s a m r after h l p =
     let rows = corrections (ruleOf k) s in
-    let q : r / length s ≡ length rows = ap (λ x. x / length s) (p .end ∙ corrections-rows (ruleOf k) s) ∙ mul-div-cancel (length rows) l in
-    record { says = rw (listed-all k s (length a) e h, q); now = rw (listed-all k s (length a) e h) (p .now) }
+    let q : r / length s ≡ length rows = ap (λ x. x / length s) (p .ends ∙ zero-add _ ∙ corrections-rows (ruleOf k) s) ∙ mul-div-cancel (length rows) l in
+    let e = room-enough (roomFor (length s)) (length a) (success (length rows) (joined rows)) h in
+    record { says = rw (e, q); now = rw e (p .now) }

@@ -15,10 +15,9 @@ use Rattle.figures.specs.Changes.{exchanged}
 use Rattle.rules.specs.Finding.{accepts}
 use Rattle.corrections.specs.declared.five.Five.{Five}
 use Rattle.corrections.specs.Five.{ruleOf}
-use Rattle.corrections.specs.Entries.{each, only}
-use Rattle.corrections.specs.Corrections.{kept, replaced, fixesAt, replacements, exchanges, corrections}
+use Rattle.corrections.specs.Corrections.{each, only, ifAccepted, replaced, fixesAt, replacements, exchanges, corrections}
 use Rattle.corrections.specs.Meaning.{OneDigit, Neighbours, Correction, Once, Whole}
-use Rattle.corrections.proofs.Fixes.{kept-yes, fixes-hit, fixes-none, accepted-digits}
+use Rattle.corrections.proofs.Fixes.{accepted-yes, fixes-hit, fixes-none, accepted-digits}
 use Rattle.corrections.proofs.Rows.{corrections-rows}
 use Rattle.corrections.proofs.Members.{In, in-each, each-in, once-append, once-each, each-length}
 
@@ -46,45 +45,45 @@ fixes-few c s i h =
     ⊎-elim (λ none. rw (fixes-none c s i 10 (omega arith) none) (only-few _ _)) (λ r. rw (fixes-hit c s i (r .0) h (r .1) (r .2)) (only-few _ _))
     (find (λ d. accepts (ruleOf c) (replaced s i d)) 10)
 
-kept-few : (c : Five) (t : List ℕ) → length (kept (ruleOf c) t) ≤ 1
-unfolding kept
-kept-few c t = only-few (accepts (ruleOf c) t) t
+accepted-few : (c : Five) (t : List ℕ) → length (ifAccepted (ruleOf c) t) ≤ 1
+unfolding ifAccepted
+accepted-few c t = only-few (accepts (ruleOf c) t) t
 
 -- at most 2n - 1 entries
 pub few : (c : Five) (s : List ℕ) → length (corrections (ruleOf c) s) ≤ 2 * length s - 1
 unfolding corrections replacements exchanges
 few c s =
     let a = each-length (length s) (fixesAt (ruleOf c) s) (fixes-few c s) in
-    let b = each-length (length s - 1) (λ i. kept (ruleOf c) (exchanged s i)) (λ i h. kept-few c (exchanged s i)) in
-    rw (length-append (each (length s) (fixesAt (ruleOf c) s)) (each (length s - 1) (λ i. kept (ruleOf c) (exchanged s i)))) (omega arith)
+    let b = each-length (length s - 1) (λ i. ifAccepted (ruleOf c) (exchanged s i)) (λ i h. accepted-few c (exchanged s i)) in
+    rw (length-append (each (length s) (fixesAt (ruleOf c) s)) (each (length s - 1) (λ i. ifAccepted (ruleOf c) (exchanged s i)))) (omega arith)
 
 -- ---- which
 
-in-kept : (c : Five) (t u : List ℕ) → In t (kept (ruleOf c) u) → (t ≡ u) × (accepts (ruleOf c) u ≡ true)
-unfolding kept only
-in-kept c t u m = go (accepts (ruleOf c) u) refl m
+in-accepted : (c : Five) (t u : List ℕ) → In t (ifAccepted (ruleOf c) u) → (t ≡ u) × (accepts (ruleOf c) u ≡ true)
+unfolding ifAccepted only
+in-accepted c t u m = go (accepts (ruleOf c) u) refl m
   where
     go : (b : Bool) → accepts (ruleOf c) u ≡ b → In t (only b u) → (t ≡ u) × (accepts (ruleOf c) u ≡ true)
     go true e k = (List·Memᴰ·eq-of-singleton k, e)
     go false e k = absurd (List·Memᴰ·not-nil k)
 
-kept-in : (c : Five) (t u : List ℕ) → t ≡ u → accepts (ruleOf c) u ≡ true → In t (kept (ruleOf c) u)
-kept-in c t u q e = rw (kept-yes (ruleOf c) u e) (List·Memᴰ·head q)
+accepted-in : (c : Five) (t u : List ℕ) → t ≡ u → accepts (ruleOf c) u ≡ true → In t (ifAccepted (ruleOf c) u)
+accepted-in c t u q e = rw (accepted-yes (ruleOf c) u e) (List·Memᴰ·head q)
 
 -- an entry of the replacements: its place and digit
 in-replacements : (c : Five) (s t : List ℕ) → In t (replacements (ruleOf c) s) → (i : ℕ) × (i < length s) × (d : ℕ) × (d < 10) × (t ≡ replaced s i d) × (accepts (ruleOf c) t ≡ true)
 unfolding replacements fixesAt
 in-replacements c s t m =
     let r = in-each (length s) (fixesAt (ruleOf c) s) t m in
-    let q = in-each 10 (λ d. kept (ruleOf c) (replaced s (r .0) d)) t (r .2) in
-    let k = in-kept c t (replaced s (r .0) (q .0)) (q .2) in
+    let q = in-each 10 (λ d. ifAccepted (ruleOf c) (replaced s (r .0) d)) t (r .2) in
+    let k = in-accepted c t (replaced s (r .0) (q .0)) (q .2) in
     (r .0, r .1, q .0, q .1, k .0, ap (accepts (ruleOf c)) (k .0) ∙ k .1)
 
 in-exchanges : (c : Five) (s t : List ℕ) → In t (exchanges (ruleOf c) s) → (i : ℕ) × (i + 1 < length s) × (t ≡ exchanged s i) × (accepts (ruleOf c) t ≡ true)
 unfolding exchanges
 in-exchanges c s t m =
-    let r = in-each (length s - 1) (λ i. kept (ruleOf c) (exchanged s i)) t m in
-    let k = in-kept c t (exchanged s (r .0)) (r .2) in
+    let r = in-each (length s - 1) (λ i. ifAccepted (ruleOf c) (exchanged s i)) t m in
+    let k = in-accepted c t (exchanged s (r .0)) (r .2) in
     (r .0, omega (arith, r .1), k .0, ap (accepts (ruleOf c)) (k .0) ∙ k .1)
 
 exchanged-same : (s : List ℕ) (i : ℕ) → getD s i 0 ≡ getD s (i + 1) 0 → exchanged s i ≡ s
@@ -165,13 +164,13 @@ in-one c s t l e p =
     let k : 48 + (getD t i 0 - 48) ≡ getD t i 0 = omega (arith, g .0) in
     let q : t ≡ replaced s i (getD t i 0 - 48) = is-replaced s t l p ∙ ap (set s i) (sym k) in
     each-in (length s) (fixesAt (ruleOf c) s) t i (p .within)
-    (each-in 10 (λ d. kept (ruleOf c) (replaced s i d)) t (getD t i 0 - 48) (omega (arith, g .1)) (kept-in c t (replaced s i (getD t i 0 - 48)) q (sym (ap (accepts (ruleOf c)) q) ∙ e)))
+    (each-in 10 (λ d. ifAccepted (ruleOf c) (replaced s i d)) t (getD t i 0 - 48) (omega (arith, g .1)) (accepted-in c t (replaced s i (getD t i 0 - 48)) q (sym (ap (accepts (ruleOf c)) q) ∙ e)))
 
 in-two : (c : Five) (s t : List ℕ) → length t ≡ length s → accepts (ruleOf c) t ≡ true → Neighbours s t → In t (exchanges (ruleOf c) s)
 unfolding exchanges
 in-two c s t l e p =
     let q = is-exchanged s t l p in
-    each-in (length s - 1) (λ i. kept (ruleOf c) (exchanged s i)) t (p .place) (omega (arith, p .within)) (kept-in c t (exchanged s (p .place)) q (sym (ap (accepts (ruleOf c)) q) ∙ e))
+    each-in (length s - 1) (λ i. ifAccepted (ruleOf c) (exchanged s i)) t (p .place) (omega (arith, p .within)) (accepted-in c t (exchanged s (p .place)) q (sym (ap (accepts (ruleOf c)) q) ∙ e))
 
 -- the list of a refused number holds exactly its corrections
 pub listed : (c : Five) (s : List ℕ) → accepts (ruleOf c) s ≡ false → (t : List ℕ) → In t (corrections (ruleOf c) s) ↔ Correction (ruleOf c) s t
@@ -191,9 +190,9 @@ listed c s bad t = (to, from)
 
 -- ---- each once
 
-once-kept : (c : Five) (t : List ℕ) → Once (kept (ruleOf c) t)
-unfolding kept only
-once-kept c t = go (accepts (ruleOf c) t)
+once-accepted : (c : Five) (t : List ℕ) → Once (ifAccepted (ruleOf c) t)
+unfolding ifAccepted only
+once-accepted c t = go (accepts (ruleOf c) t)
   where
     go : (b : Bool) → Once (only b t)
     go true = (List·Memᴰ·not-nil, tt)
@@ -202,8 +201,8 @@ once-kept c t = go (accepts (ruleOf c) t)
 once-fixes : (c : Five) (s : List ℕ) (i : ℕ) → i < length s → Once (fixesAt (ruleOf c) s i)
 unfolding fixesAt
 once-fixes c s i h =
-    once-each 10 (λ d. kept (ruleOf c) (replaced s i d)) (λ d k. once-kept c (replaced s i d))
-    (λ d e t l k u v. apart d e l (sym (in-kept c t (replaced s i d) u .0) ∙ in-kept c t (replaced s i e) v .0))
+    once-each 10 (λ d. ifAccepted (ruleOf c) (replaced s i d)) (λ d k. once-accepted c (replaced s i d))
+    (λ d e t l k u v. apart d e l (sym (in-accepted c t (replaced s i d) u .0) ∙ in-accepted c t (replaced s i e) v .0))
   where
     apart : (d e : ℕ) → d < e → replaced s i d ≡ replaced s i e → ⊥
     apart d e l q =
@@ -222,16 +221,16 @@ module _ (c : Five) (s : List ℕ) (bad : accepts (ruleOf c) s ≡ false) where
   first-replaced : (t : List ℕ) (i : ℕ) → i < length s → In t (fixesAt (ruleOf c) s i) → First t i
   unfolding fixesAt
   first-replaced t i h m =
-      let r = in-each 10 (λ d. kept (ruleOf c) (replaced s i d)) t m in
-      let k = in-kept c t (replaced s i (r .0)) (r .2) in (
+      let r = in-each 10 (λ d. ifAccepted (ruleOf c) (replaced s i d)) t m in
+      let k = in-accepted c t (replaced s i (r .0)) (r .2) in (
         (λ q. differs c s bad t (ap (accepts (ruleOf c)) (k .0) ∙ k .1)
             (k .0 ∙ ap (set s i) (sym (getD-set-same s i (48 + r .0) 0 h) ∙ sym (ap (λ (l : List ℕ). getD l i 0) (k .0)) ∙ q) ∙ set-getD s i 0)),
         λ j l. ap (λ (x : List ℕ). getD x j 0) (k .0) ∙ getD-set-other s i j _ 0 (λ q. omega arith),
       )
 
-  first-exchanged : (t : List ℕ) (i : ℕ) → i + 1 < length s → In t (kept (ruleOf c) (exchanged s i)) → First t i
+  first-exchanged : (t : List ℕ) (i : ℕ) → i + 1 < length s → In t (ifAccepted (ruleOf c) (exchanged s i)) → First t i
   first-exchanged t i h m =
-      let k = in-kept c t (exchanged s i) m in (
+      let k = in-accepted c t (exchanged s i) m in (
         (λ q. differs c s bad t (ap (accepts (ruleOf c)) (k .0) ∙ k .1)
             (k .0 ∙ exchanged-same s i (sym (sym (exchanged-left s i h) ∙ sym (ap (λ (l : List ℕ). getD l i 0) (k .0)) ∙ q)))),
         λ j l. ap (λ (x : List ℕ). getD x j 0) (k .0) ∙ exchanged-rest s i j (λ q. omega arith) (λ q. omega arith),
@@ -246,7 +245,7 @@ module _ (c : Five) (s : List ℕ) (bad : accepts (ruleOf c) s ≡ false) where
   once-exchanges : Once (exchanges (ruleOf c) s)
   unfolding exchanges
   once-exchanges =
-      once-each (length s - 1) (λ i. kept (ruleOf c) (exchanged s i)) (λ i h. once-kept c (exchanged s i))
+      once-each (length s - 1) (λ i. ifAccepted (ruleOf c) (exchanged s i)) (λ i h. once-accepted c (exchanged s i))
       (λ i j t l k u v. first-one t i j l (first-exchanged t i (omega arith) u) (first-exchanged t j (omega arith) v))
 
   -- no entry stands twice

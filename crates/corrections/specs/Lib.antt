@@ -2,8 +2,7 @@
 pub mod Five
 pub mod Outcome
 pub mod Completing
-pub mod Entries
 pub mod Corrections
 pub mod Listing
-pub mod Totals
 pub mod Meaning
+pub mod Inner

@@ -6,44 +6,31 @@ use mathlib.Core.List.{List, [], _∷_, List·Memᴰ}
 use Prim.Native.Nat.{ℕ, _+_, _-_, _*_, _≤_, _<_}
 use lib.ListN.{length, getD}
 use Rattle.answer.specs.declared.reason.Reason.the-variants.{NoReason}
-use Rattle.text.specs.Answer.{normalText, textOf}
-use Rattle.figures.specs.Total.{number}
+use Rattle.text.specs.declared.reading.Reading.the-variants.{Normalised}
+use Rattle.text.specs.Answer.{textBy}
+use Rattle.figures.specs.Completing.{Completes}
 use Rattle.rules.specs.declared.rule.Rule.{Rule}
 use Rattle.rules.specs.Finding.{accepts}
 use Rattle.corrections.specs.declared.five.Five.{Five}
-use Rattle.corrections.specs.declared.five.Five.the-variants.{Gln, Norway, Belgium, Sweden, Australia}
 use Rattle.corrections.specs.declared.five.Known.the-variants.{One}
-use Rattle.corrections.specs.Five.{ruleOf, fiveOf}
+use Rattle.corrections.specs.Five.{row, ruleOf, fiveOf}
 use Rattle.corrections.specs.Outcome.{success}
-use Rattle.corrections.specs.Completing.{figureFor, numberOf, noFigure, completing}
-use Rattle.corrections.specs.Entries.{joined}
+use Rattle.corrections.specs.Completing.{figureFor, numberWith, noFigure, completing}
+use Rattle.ascii.specs.Area.{joined}
 use Rattle.corrections.specs.Listing.{roomFor, listing}
 
 -- ---- completing
 
--- the least figure that is written: of two pairs that complete a body of 0151 the one in 11 to 99
-abbrev pub leastFigure : Five → ℕ
-leastFigure Gln = 0
-leastFigure Norway = 0
-leastFigure Belgium = 0
-leastFigure Sweden = 0
-leastFigure Australia = 11
-
--- the rule accepts the body with its figure, and with no other
-pub record Completed (k : Five) (body : List ℕ) : Type 0 where
-  pub accepted : accepts (ruleOf k) (numberOf k body (figureFor k body)) ≡ true
-  pub alone : (y : List ℕ) → length y ≡ length (figureFor k body) → leastFigure k ≤ number y → accepts (ruleOf k) (numberOf k body y) ≡ true → y ≡ figureFor k body
-
 -- ZERO and NONE stand exactly when no figure completes the body
 abbrev pub NoneCompletes : Five → List ℕ → Type 0
 NoneCompletes k body =
-    (noFigure k body ≡ NoReason → ⊥) ↔ ((y : List ℕ) → length y ≡ length (figureFor k body) → accepts (ruleOf k) (numberOf k body y) ≡ false)
+    (noFigure k body ≡ NoReason → ⊥) ↔ ((y : List ℕ) → length y ≡ length (figureFor k body) → accepts (ruleOf k) (numberWith k body y) ≡ false)
 
 -- a completion that is done: of one of the five; it writes the figure that completes the body
 pub record CompletedAs (scheme body : List ℕ) (room : ℕ) : Type 0 where
   pub kind : Five
   pub known : fiveOf scheme ≡ One kind
-  pub completed : Completed kind body
+  pub completed : Completes (accepts (ruleOf kind)) (numberWith kind body) (row kind .lowest) (figureFor kind body)
   pub outcome : completing scheme body room ≡ success (length (figureFor kind body)) (figureFor kind body)
 
 -- ---- listing
@@ -86,7 +73,7 @@ pub record Whole (r : Rule) (s : List ℕ) (entries : List (List ℕ)) : Type 0 
 pub record Listed (scheme content : List ℕ) (room : ℕ) : Type 0 where
   pub kind : Five
   pub known : fiveOf scheme ≡ One kind
-  pub refused : accepts (ruleOf kind) (textOf (normalText content)) ≡ false
+  pub refused : accepts (ruleOf kind) (textBy Normalised content) ≡ false
   pub entries : List (List ℕ)
-  pub whole : Whole (ruleOf kind) (textOf (normalText content)) entries
+  pub whole : Whole (ruleOf kind) (textBy Normalised content) entries
   pub outcome : listing scheme content room ≡ success (length entries) (joined entries)

@@ -1,6 +1,6 @@
 // What a completion or a listing answers.
 ghost use mathlib.Core.Path.{_≡_};
-ghost use Rattle.corrections.specs.Outcome.{refusedBy};
+ghost use Rattle.corrections.specs.Outcome.{refusedWith};
 use answer::Reason;
 
 // NoReason where the work is done, and then a count: of digits written or of entries.
@@ -10,7 +10,7 @@ pub struct Done {
 }
 
 pub(crate) fn refused(reason: Reason) -> Done
-    ensures { λ r. ⌜ r ≡ refusedBy reason ⌝ }
+    ensures { λ r. ⌜ r ≡ refusedWith reason .says ⌝ }
 {
     Done { reason, count: 0 }
 }

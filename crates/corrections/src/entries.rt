@@ -4,10 +4,10 @@ ghost use Prim.Native.Nat.{_+_, _-_, _*_, _≤_, _<_};
 ghost use lib.ListN.{length};
 ghost use Rattle.figures.specs.Changes.{exchanged};
 ghost use Rattle.corrections.specs.Five.{ruleOf};
-ghost use Rattle.corrections.specs.Entries.{joined, Put, Filling};
-ghost use Rattle.corrections.specs.Corrections.{kept, fixesAt, replacements, exchanges, corrections};
+ghost use Rattle.ascii.specs.Area.{joined, Put};
+ghost use Rattle.corrections.specs.Corrections.{ifAccepted, fixesAt, replacements, exchanges, corrections};
 ghost use Rattle.corrections.specs.Listing.{roomFor};
-ghost use Rattle.corrections.specs.Totals.{Weights, Summed};
+ghost use Rattle.corrections.specs.Inner.{addsBy, Summed};
 use super::five::Five;
 use super::found::accepts_exchanged;
 use super::found::digit_at;
@@ -17,19 +17,19 @@ use super::row::put_replaced;
 // The replacement at one place, if there is one, written at `at`; hands back where it ends.
 fn put_fix(
     kind: Five,
-    weights: &[u64],
+    weights: &[u32],
     s: &[u8],
     sum: u64,
     i: usize,
     out: &mut [u8],
     at: usize,
 ) -> usize
-    requires { ⌜ Weights kind (now weights) ⌝ ∗ ⌜ Summed kind (now s) sum ⌝ ∗ ⌜ i < length (now s) ⌝ ∗ ⌜ at + length (now s) ≤ length (now out) ⌝ }
+    requires { ⌜ now weights ≡ addsBy kind .weights ⌝ ∗ ⌜ Summed kind (now s) sum ⌝ ∗ ⌜ i < length (now s) ⌝ ∗ ⌜ at + length (now s) ≤ length (now out) ⌝ }
     ensures { λ r. ⌜ Put (length (now (s .entry))) (now (out .entry)) at (joined (fixesAt (ruleOf kind) (now (s .entry)) i)) r (now (out .exit)) ⌝ }
 {
     let d = digit_at(kind, weights, s, sum, i);
     if d < 10 {
-        let b = (48 + d) as u8;
+        let b = 48 + d;
         let e = at + s.len();
         put_replaced(&mut out[at..e], s, i, b);
         return e;
@@ -40,15 +40,15 @@ fn put_fix(
 // The exchange at one place, if the rule accepts it.
 fn put_swap(
     kind: Five,
-    weights: &[u64],
+    weights: &[u32],
     s: &[u8],
     sum: u64,
     i: usize,
     out: &mut [u8],
     at: usize,
 ) -> usize
-    requires { ⌜ Weights kind (now weights) ⌝ ∗ ⌜ Summed kind (now s) sum ⌝ ∗ ⌜ i + 1 < length (now s) ⌝ ∗ ⌜ at + length (now s) ≤ length (now out) ⌝ }
-    ensures { λ r. ⌜ Put (length (now (s .entry))) (now (out .entry)) at (joined (kept (ruleOf kind) (exchanged (now (s .entry)) i))) r (now (out .exit)) ⌝ }
+    requires { ⌜ now weights ≡ addsBy kind .weights ⌝ ∗ ⌜ Summed kind (now s) sum ⌝ ∗ ⌜ i + 1 < length (now s) ⌝ ∗ ⌜ at + length (now s) ≤ length (now out) ⌝ }
+    ensures { λ r. ⌜ Put (length (now (s .entry))) (now (out .entry)) at (joined (ifAccepted (ruleOf kind) (exchanged (now (s .entry)) i))) r (now (out .exit)) ⌝ }
 {
     if accepts_exchanged(kind, weights, s, sum, i) {
         let e = at + s.len();
@@ -58,10 +58,10 @@ fn put_swap(
     at
 }
 
-// All replacements from the area's start on; hands back how many bytes they take.
-fn put_replacements(kind: Five, weights: &[u64], s: &[u8], sum: u64, out: &mut [u8]) -> usize
-    requires { ⌜ Weights kind (now weights) ⌝ ∗ ⌜ Summed kind (now s) sum ⌝ ∗ ⌜ length (now s) * length (now s) ≤ length (now out) ⌝ }
-    ensures { λ r. ⌜ Filling (joined (replacements (ruleOf kind) (now (s .entry)))) (length (now (s .entry)) * length (now (s .entry))) (now (out .entry)) r (now (out .exit)) ⌝ }
+// All replacements, from the area's start on; hands back where they end.
+fn put_replacements(kind: Five, weights: &[u32], s: &[u8], sum: u64, out: &mut [u8]) -> usize
+    requires { ⌜ now weights ≡ addsBy kind .weights ⌝ ∗ ⌜ Summed kind (now s) sum ⌝ ∗ ⌜ length (now s) * length (now s) ≤ length (now out) ⌝ }
+    ensures { λ r. ⌜ Put (length (now (s .entry)) * length (now (s .entry))) (now (out .entry)) 0 (joined (replacements (ruleOf kind) (now (s .entry)))) r (now (out .exit)) ⌝ }
 {
     let mut at = 0;
     let mut i = 0;
@@ -72,12 +72,19 @@ fn put_replacements(kind: Five, weights: &[u64], s: &[u8], sum: u64, out: &mut [
     at
 }
 
-// All exchanges.
-fn put_exchanges(kind: Five, weights: &[u64], s: &[u8], sum: u64, out: &mut [u8]) -> usize
-    requires { ⌜ Weights kind (now weights) ⌝ ∗ ⌜ Summed kind (now s) sum ⌝ ∗ ⌜ (length (now s) - 1) * length (now s) ≤ length (now out) ⌝ }
-    ensures { λ r. ⌜ Filling (joined (exchanges (ruleOf kind) (now (s .entry)))) ((length (now (s .entry)) - 1) * length (now (s .entry))) (now (out .entry)) r (now (out .exit)) ⌝ }
+// All exchanges, written at `from`.
+fn put_exchanges(
+    kind: Five,
+    weights: &[u32],
+    s: &[u8],
+    sum: u64,
+    out: &mut [u8],
+    from: usize,
+) -> usize
+    requires { ⌜ now weights ≡ addsBy kind .weights ⌝ ∗ ⌜ Summed kind (now s) sum ⌝ ∗ ⌜ from + (length (now s) - 1) * length (now s) ≤ length (now out) ⌝ }
+    ensures { λ r. ⌜ Put ((length (now (s .entry)) - 1) * length (now (s .entry))) (now (out .entry)) from (joined (exchanges (ruleOf kind) (now (s .entry)))) r (now (out .exit)) ⌝ }
 {
-    let mut at = 0;
+    let mut at = from;
     let mut i = 0;
     while i + 1 < s.len() {
         at = put_swap(kind, weights, s, sum, i, out, at);
@@ -89,15 +96,14 @@ fn put_exchanges(kind: Five, weights: &[u64], s: &[u8], sum: u64, out: &mut [u8]
 // Both, one after the other.
 pub(crate) fn put_corrections(
     kind: Five,
-    weights: &[u64],
+    weights: &[u32],
     s: &[u8],
     sum: u64,
     out: &mut [u8],
 ) -> usize
-    requires { ⌜ Weights kind (now weights) ⌝ ∗ ⌜ Summed kind (now s) sum ⌝ ∗ ⌜ roomFor (length (now s)) ≤ length (now out) ⌝ }
-    ensures { λ r. ⌜ Filling (joined (corrections (ruleOf kind) (now (s .entry)))) (roomFor (length (now (s .entry)))) (now (out .entry)) r (now (out .exit)) ⌝ }
+    requires { ⌜ now weights ≡ addsBy kind .weights ⌝ ∗ ⌜ Summed kind (now s) sum ⌝ ∗ ⌜ roomFor (length (now s)) ≤ length (now out) ⌝ }
+    ensures { λ r. ⌜ Put (roomFor (length (now (s .entry)))) (now (out .entry)) 0 (joined (corrections (ruleOf kind) (now (s .entry)))) r (now (out .exit)) ⌝ }
 {
     let mid = put_replacements(kind, weights, s, sum, out);
-    let end = put_exchanges(kind, weights, s, sum, &mut out[mid..]);
-    mid + end
+    put_exchanges(kind, weights, s, sum, out, mid)
 }

@@ -1,8 +1,12 @@
 // The five schemes whose numbers are completed and listed.
 ghost use mathlib.Core.Path.{_≡_};
-ghost use Rattle.rules.specs.Facts.{facts, bytesOf};
-ghost use Rattle.rules.specs.Choice.{sameBytes};
-ghost use Rattle.corrections.specs.Five.{ruleOf, fiveOf, schemeOf};
+ghost use Rattle.ascii.specs.Written.{sameBytes};
+ghost use Rattle.corrections.specs.Five.{row, ruleOf, fiveOf, schemeOf};
+use figures::Kind;
+use forms::AUSTRALIAN;
+use forms::BELGIAN;
+use forms::NORWEGIAN;
+use forms::SWEDISH;
 use rules::Rule;
 use rules::Scheme;
 
@@ -21,17 +25,106 @@ pub enum Known {
     Other,
 }
 
+// What is fixed about one of the five.
+pub struct Row {
+    pub rule: Rule,
+    pub figure: Kind,
+    // how many digits a number has, and how many a body
+    pub least: u8,
+    pub most: u8,
+    pub shortest: u8,
+    pub longest: u8,
+    // whether the figure is a pair, and whether it goes in front of the body
+    pub pair: bool,
+    pub front: bool,
+    // whether some bodies have no figure
+    pub gaps: bool,
+    // the least figure that is written
+    pub lowest: u8,
+}
+
 impl Five {
+    pub fn row(self) -> Row
+        ensures { λ r. ⌜ r ≡ row self ⌝ }
+    {
+        match self {
+            Five::Gln => Row {
+                rule: Rule::R40,
+                figure: Kind::Mod10,
+                least: 1,
+                most: 20,
+                shortest: 1,
+                longest: 19,
+                pair: false,
+                front: false,
+                gaps: false,
+                lowest: 0,
+            },
+            Five::Norway => Row {
+                rule: Rule::R41,
+                figure: Kind::Mod11,
+                least: NORWEGIAN as u8,
+                most: NORWEGIAN as u8,
+                shortest: 8,
+                longest: 8,
+                pair: false,
+                front: false,
+                gaps: true,
+                lowest: 0,
+            },
+            Five::Belgium => Row {
+                rule: Rule::R43,
+                figure: Kind::Mod97,
+                least: BELGIAN as u8,
+                most: BELGIAN as u8,
+                shortest: 8,
+                longest: 8,
+                pair: true,
+                front: false,
+                gaps: false,
+                lowest: 0,
+            },
+            Five::Sweden => Row {
+                rule: Rule::R49,
+                figure: Kind::Luhn,
+                least: SWEDISH as u8,
+                most: SWEDISH as u8,
+                shortest: 9,
+                longest: 9,
+                pair: false,
+                front: false,
+                gaps: false,
+                lowest: 0,
+            },
+            Five::Australia => Row {
+                rule: Rule::R50,
+                figure: Kind::Mod89,
+                least: AUSTRALIAN as u8,
+                most: AUSTRALIAN as u8,
+                shortest: 9,
+                longest: 9,
+                pair: true,
+                front: true,
+                gaps: false,
+                lowest: 11,
+            },
+        }
+    }
+
     pub fn rule(self) -> Rule
         ensures { λ r. ⌜ r ≡ ruleOf self ⌝ }
     {
-        match self {
-            Five::Gln => Rule::R40,
-            Five::Norway => Rule::R41,
-            Five::Belgium => Rule::R43,
-            Five::Sweden => Rule::R49,
-            Five::Australia => Rule::R50,
-        }
+        let row = self.row();
+        let rule = row.rule;
+        rule
+    }
+
+    pub fn figure(self) -> Kind
+        ensures { λ r. ⌜ r ≡ row self .figure ⌝ }
+    {
+        let row = self.row();
+        let figure = row.figure;
+        figure
     }
 }
 

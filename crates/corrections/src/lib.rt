@@ -6,11 +6,11 @@ mod five;
 mod found;
 mod listing;
 mod row;
-mod total;
 
 pub use completing::complete;
 pub use done::Done;
 pub use five::Five;
 pub use five::Known;
+pub use five::Row;
 pub use five::five_of;
 pub use listing::list;

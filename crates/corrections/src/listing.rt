@@ -1,66 +1,59 @@
 // Listing: every correction of a refused number.
 ghost use mathlib.Core.Path.{_≡_};
-ghost use mathlib.Core.Bool.{true};
 ghost use lib.ListN.{length};
-ghost use Rattle.forms.specs.Form.{fits};
 ghost use Rattle.corrections.specs.Outcome.{Works};
-ghost use Rattle.corrections.specs.Listing.{numberForm, listedNumber, listedText, listedBy, listing};
-use super::completing::is_digits;
+ghost use Rattle.corrections.specs.Listing.{numberFound, entriesOf, listedBy, listedFor, listing};
+ghost use Rattle.corrections.specs.Inner.{addsBy};
 use super::done::Done;
 use super::done::refused;
 use super::entries::put_corrections;
 use super::five::Five;
 use super::five::Known;
 use super::five::five_of;
-use super::found::passes;
-use super::total::total_of;
-use super::total::weights_of;
 use answer::Reason;
+use figures::Sum;
+use figures::passes;
+use figures::sum_of;
 
-fn number_fits(kind: Five, s: &[u8]) -> bool
-    ensures { λ r. ⌜ r ≡ fits (numberForm kind) (now (s .entry)) ⌝ }
+// A number, by the weights of its digits.
+fn list_number(kind: Five, weights: &[u32], s: &[u8], out: &mut [u8]) -> Done
+    requires { ⌜ now weights ≡ addsBy kind .weights ⌝ }
+    ensures { λ r. ⌜ Works (listedBy (numberFound kind (now (s .entry))) (entriesOf kind (now (s .entry)) (length (now (out .entry))))) (now (out .entry)) r (now (out .exit)) ⌝ }
 {
-    match kind {
-        Five::Gln => is_digits(s, 1, 20),
-        Five::Norway => is_digits(s, 9, 9),
-        Five::Belgium => is_digits(s, 10, 10),
-        Five::Sweden => is_digits(s, 10, 10),
-        Five::Australia => is_digits(s, 11, 11),
-    }
-}
-
-// A number of the right form.
-fn list_number(kind: Five, s: &[u8], out: &mut [u8]) -> Done
-    requires { ⌜ fits (numberForm kind) (now s) ≡ true ⌝ }
-    ensures { λ r. ⌜ Works (listedNumber kind (now (s .entry)) (length (now (out .entry)))) (now (out .entry)) r (now (out .exit)) ⌝ }
-{
-    let weights = weights_of(kind);
-    let sum = total_of(kind, &weights, s, 0);
-    if passes(kind, sum) {
+    let row = kind.row();
+    let figure = row.figure;
+    let Sum::Of(sum) = sum_of(figure, s, row.least, row.most, false) else {
+        return refused(Reason::Form);
+    };
+    if passes(figure, sum) {
         return refused(Reason::Good);
     }
     let n = s.len();
     if out.len() < (2 * n - 1) * n {
         return refused(Reason::Room);
     }
-    let end = put_corrections(kind, &weights, s, sum, out);
+    let end = put_corrections(kind, weights, s, sum, out);
     Done {
         reason: Reason::NoReason,
         count: end / n,
     }
 }
 
+// The weights are bound here, once for a listing.
 fn list_text(kind: Five, s: &[u8], out: &mut [u8]) -> Done
-    ensures { λ r. ⌜ Works (listedText kind (now (s .entry)) (length (now (out .entry)))) (now (out .entry)) r (now (out .exit)) ⌝ }
+    ensures { λ r. ⌜ Works (listedBy (numberFound kind (now (s .entry))) (entriesOf kind (now (s .entry)) (length (now (out .entry))))) (now (out .entry)) r (now (out .exit)) ⌝ }
 {
-    if number_fits(kind, s) {
-        return list_number(kind, s, out);
+    match kind {
+        Five::Gln => list_number(kind, &figures::MOD10, s, out),
+        Five::Norway => list_number(kind, &figures::MOD11, s, out),
+        Five::Belgium => list_number(kind, &figures::MOD97, s, out),
+        Five::Sweden => list_number(kind, &figures::LUHN, s, out),
+        Five::Australia => list_number(kind, &figures::MOD89, s, out),
     }
-    refused(Reason::Form)
 }
 
 fn list_by(kind: Five, content: &[u8], out: &mut [u8]) -> Done
-    ensures { λ r. ⌜ Works (listedBy kind (now (content .entry)) (length (now (out .entry)))) (now (out .entry)) r (now (out .exit)) ⌝ }
+    ensures { λ r. ⌜ Works (listedFor kind (now (content .entry)) (length (now (out .entry)))) (now (out .entry)) r (now (out .exit)) ⌝ }
 {
     let mut area = [0u8; 1024];
     let kept = text::normalize_into(content, &mut area);

@@ -24,8 +24,9 @@ use Rattle.figures.specs.Total.{total, number}
 use Rattle.figures.specs.Figures.{Figure, adds, totalBy, right, figure40, figure41, luhn, figure50}
 use Rattle.figures.specs.Findings.{isGood}
 use Rattle.figures.specs.Rules.{gln, mod11, mod97, seOrgnr, abn, abnTotal, allZero}
-use Rattle.figures.specs.Completing.{oneDigit, twoDigits, lacks, glnCheck, mod11Check, mod11Reason, mod97Check, seOrgnrCheck, abnCheck, Completes}
+use Rattle.figures.specs.Completing.{oneDigit, twoDigits, lacks, checkFigure, mod11Reason, Completes}
 use Rattle.figures.specs.declared.finding.Finding.{Finding}
+use Rattle.figures.specs.declared.kind.Kind.the-variants.{Mod10, Mod11, Mod97, Luhn, Mod89}
 use Rattle.figures.proofs.Digits.{all-end, all-front}
 use Rattle.figures.proofs.Zeros.{zeros41}
 use Rattle.figures.proofs.Judging.{good-by, good-by-zero, good-zero}
@@ -104,7 +105,7 @@ module _ (rule : List ℕ → Finding) (f : Figure) (left a b : ℕ) (links : Li
   one-completes = record { accepted = decides x small ∙ eq-eqb x x refl; alone = one-alone }
 
 -- 0088
-pub gln-completes : (body : List ℕ) → all isDigit body ≡ true → length body < 1024 → Completes (good gln) (λ y. body ++ y) 0 (glnCheck body)
+pub gln-completes : (body : List ℕ) → all isDigit body ≡ true → length body < 1024 → Completes (good gln) (λ y. body ++ y) 0 (oneDigit (checkFigure Mod10 body))
 unfolding gln
 gln-completes body h n =
     one-completes gln figure40 0 1 1024 gln-links body (lacks figure40 body) (omega arith)
@@ -115,7 +116,7 @@ gln-completes body h n =
     ∙ right40 body c l)
 
 -- 0007
-pub se-orgnr-completes : (body : List ℕ) → all isDigit body ≡ true → length body ≡ 9 → Completes (good seOrgnr) (λ y. body ++ y) 0 (seOrgnrCheck body)
+pub se-orgnr-completes : (body : List ℕ) → all isDigit body ≡ true → length body ≡ 9 → Completes (good seOrgnr) (λ y. body ++ y) 0 (oneDigit (checkFigure Luhn body))
 unfolding seOrgnr
 se-orgnr-completes body h n =
     one-completes seOrgnr luhn 0 10 10 se-orgnr-links body (lacks luhn body) (omega arith)
@@ -164,7 +165,7 @@ module _ (body : List ℕ) (h : all isDigit body ≡ true) (n : length body ≡ 
   reason-none false true e = absurd (let q : _≡_ {A = ℕ} 0 1 = cc in omega arith)
   reason-none false false e = (refl, refl)
 
-  pub mod11-completes : mod11Reason body ≡ NoReason → Completes (good mod11) (λ y. body ++ y) 0 (mod11Check body)
+  pub mod11-completes : mod11Reason body ≡ NoReason → Completes (good mod11) (λ y. body ++ y) 0 (oneDigit (checkFigure Mod11 body))
   mod11-completes e =
       let r = reason-none (allZero body) (eqb (lacks figure41 body) 10) e in
       one-completes mod11 figure41 0 9 9 mod11-links body (lacks figure41 body) (omega (arith, eqb-false (lacks figure41 body) 10 (r .1)))
@@ -175,7 +176,7 @@ module _ (body : List ℕ) (h : all isDigit body ≡ true) (n : length body ≡ 
   unfolding pick
   mod11-none = (
     λ ne y k. not-true (isGood (mod11 (body ++ y))) (λ g. ne (some y k g)),
-    λ none e. false-true (sym (none (mod11Check body) refl) ∙ mod11-completes e .accepted),
+    λ none e. false-true (sym (none (oneDigit (lacks figure41 body)) refl) ∙ mod11-completes e .accepted),
   )
     where
       by-digit : (c : ℕ) → c < 10 → (z : Bool) → allZero body ≡ z → isGood (mod11 (body ++ oneDigit c)) ≡ true → mod11Reason body ≡ NoReason
@@ -226,7 +227,7 @@ module _ (body : List ℕ) (h : all isDigit body ≡ true) (n : length body ≡ 
       ∙ ap (λ x. eqb (number x) (97 - number (take 8 (body ++ y)) % 97)) (drop-at body y 8 n)
       ∙ ap (λ x. eqb (number y) (97 - number x % 97)) (take-at body y 8 n)
 
-  pub mod97-completes : Completes (good mod97) (λ y. body ++ y) 0 (mod97Check body)
+  pub mod97-completes : Completes (good mod97) (λ y. body ++ y) 0 (twoDigits (checkFigure Mod97 body))
   mod97-completes =
       let x = 97 - number body % 97 in
       record {
@@ -271,7 +272,7 @@ module _ (body : List ℕ) (h : all isDigit body ≡ true) (n : length body ≡ 
       (λ e. i .0 (ap (λ x. x % 89) (sym (front y k)) ∙ leaves-ten (totalBy figure50 (y ++ body)) e))
       (λ e. ten-leaves (totalBy figure50 (y ++ body)) (ap (λ x. x % 89) (front y k) ∙ i .1 e))
 
-  pub abn-completes : Completes (good abn) (λ y. y ++ body) 11 (abnCheck body)
+  pub abn-completes : Completes (good abn) (λ y. y ++ body) 11 (twoDigits (checkFigure Mod89 body))
   abn-completes =
       let x = 99 - totalBy figure50 body % 89 in
       let e = number-pair x (omega arith) in

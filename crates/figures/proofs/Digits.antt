@@ -13,6 +13,7 @@ use Rattle.ascii.proofs.Tests.{below-at}
 use Rattle.ascii.proofs.Class.{all-nil, all-cons, all-first, all-rest}
 use Rattle.figures.specs.Total.{total, number}
 use Rattle.figures.specs.Figures.{adds, weightAt}
+use Rattle.figures.specs.Inner.{powers}
 
 pub all-end : (u v : List ℕ) → all isDigit (u ++ v) ≡ true → all isDigit v ≡ true
 all-end [] v h = h
@@ -37,11 +38,8 @@ same-total f g [] h = refl
 same-total f g (b ∷ s) h =
     omega (arith, h (length s) (b - 48) (omega arith), same-total f g s (λ k d l. h k d (omega arith)))
 
--- the powers of ten, from the right
-abbrev pub powers : List ℕ
-powers = 1 ∷ 10 ∷ 100 ∷ 1000 ∷ 10000 ∷ 100000 ∷ 1000000 ∷ 10000000 ∷ []
-
-pub by-powers : (s : List ℕ) → length s ≤ 8 → total (adds false powers) s ≡ number s
+-- the total by the powers of ten is the number itself
+pub by-powers : (s : List ℕ) → length s ≤ 10 → total (adds false powers) s ≡ number s
 by-powers s h =
     same-total (adds false powers) (λ k d. 10 ^ k * d) s
-    (λ k d l. ap (λ w. w * d) (eqb-true (weightAt powers k) (10 ^ k) (below-at 8 (λ j. eqb (weightAt powers j) (10 ^ j)) refl k (omega arith))))
+    (λ k d l. ap (λ w. w * d) (eqb-true (weightAt powers k) (10 ^ k) (below-at 10 (λ j. eqb (weightAt powers j) (10 ^ j)) refl k (omega arith))))

@@ -1,6 +1,6 @@
 -- Laws of check figures: what a finding shows (Judging), how a total changes (Shift), each rule's one total (Links), what is detected
 -- (Detect), which figure completes a body (Completing), how large totals are (Range), document 01's examples (Cases); and of totals from
--- the left (Steps), parts of texts of digits (Digits), totals of 0 (Zeros).
+-- the left (Steps), parts of texts of digits (Digits), totals of 0 (Zeros), the totals of the code (Adding).
 pub mod Steps
 pub mod Judging
 pub mod Digits
@@ -11,5 +11,6 @@ pub mod Shift
 pub mod Links
 pub mod Detect
 pub mod Completing
+pub mod Adding
 pub mod Range
 pub mod Cases

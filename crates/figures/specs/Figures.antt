@@ -1,7 +1,7 @@
 -- A check figure is data: weights, and a modulus of which the weighted total is a multiple.
 use mathlib.Core.Bool.{Bool, true, false}
 use mathlib.Core.List.{List, [], _∷_}
-use Prim.Native.Nat.{ℕ, _+_, _*_, _/_, _%_}
+use Prim.Native.Nat.{ℕ, _+_, _-_, _*_, _/_, _%_}
 use lib.Dec.{eqb}
 use lib.ListN.{length, getD}
 use Rattle.figures.specs.Total.{total}
@@ -42,6 +42,10 @@ figure40 = figure false (1 ∷ 3 ∷ []) 10
 -- 41: check 1, then leftwards 2, 3, 4, 5, 6, 7, 2, 3; a multiple of 11
 abbrev pub figure41 : Figure
 figure41 = figure false (1 ∷ 2 ∷ 3 ∷ 4 ∷ 5 ∷ 6 ∷ 7 ∷ 2 ∷ 3 ∷ []) 11
+
+-- 43: the pair of a body, 97 minus what the body leaves by 97, so that it runs from 01 to 97
+abbrev pub belgianPair : ℕ → ℕ
+belgianPair n = 97 - n % 97
 
 -- 47, 49: every second digit doubled, with the digits of the double added; a multiple of 10 (Luhn, ISO/IEC 7812-1)
 abbrev pub luhn : Figure

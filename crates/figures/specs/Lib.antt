@@ -5,3 +5,4 @@ pub mod Findings
 pub mod Rules
 pub mod Changes
 pub mod Completing
+pub mod Inner

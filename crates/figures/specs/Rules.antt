@@ -1,7 +1,7 @@
 -- The rules with a check figure, as document 01 words them. A rule reads the bytes of a text.
 use mathlib.Core.Bool.{Bool}
 use mathlib.Core.List.{List}
-use Prim.Native.Nat.{ℕ, _-_, _%_}
+use Prim.Native.Nat.{ℕ, _%_}
 use Prim.Native.Char.{code}
 use lib.Dec.{eqb}
 use lib.IntN.{ℤ, pos, natAbs, _+ℤ_, _-ℤ_, _*ℤ_}
@@ -10,7 +10,7 @@ use Rattle.ascii.specs.Class.{all}
 use Rattle.forms.specs.Form.{faultOf}
 use Rattle.forms.specs.Table.{someDigits, norwegian, belgian, italianOf, swedish, australian}
 use Rattle.figures.specs.Total.{digitAt, number}
-use Rattle.figures.specs.Figures.{totalBy, right, figure40, figure41, luhn, figure50}
+use Rattle.figures.specs.Figures.{totalBy, right, figure40, figure41, belgianPair, luhn, figure50}
 use Rattle.figures.specs.Findings.{judged, judgedZero}
 use Rattle.figures.specs.declared.finding.Finding.{Finding}
 
@@ -25,9 +25,9 @@ allZero s = all (eqb (code "0")) s
 unfoldable pub mod11 : List ℕ → Finding
 mod11 s = judgedZero (faultOf norwegian s) (allZero s) (right figure41 s)
 
--- 43 0208: 10 digits; the last two equal 97 minus (first eight mod 97), so that they run from 01 to 97
+-- 43 0208: 10 digits; the last two are the pair of the first eight
 unfoldable pub mod97 : List ℕ → Finding
-mod97 s = judged (faultOf belgian s) (eqb (number (drop 8 s)) (97 - number (take 8 s) % 97))
+mod97 s = judged (faultOf belgian s) (eqb (number (drop 8 s)) (belgianPair (number (take 8 s))))
 
 -- 47 0211, where it is not let through: IT or it, and 11 digits
 unfoldable pub partitaIva : List ℕ → Finding
@@ -41,6 +41,6 @@ seOrgnr s = judged (faultOf swedish s) (right luhn s)
 abbrev pub abnTotal : List ℕ → ℤ
 abnTotal s = pos 10 *ℤ (pos (digitAt s 0) -ℤ pos 1) +ℤ pos (totalBy figure50 (drop 1 s))
 
--- 11 digits; the total a multiple of 89
+-- 11 digits; the total a multiple of the modulus
 unfoldable pub abn : List ℕ → Finding
-abn s = judged (faultOf australian s) (eqb (natAbs (abnTotal s) % 89) 0)
+abn s = judged (faultOf australian s) (eqb (natAbs (abnTotal s) % figure50 .modulus) 0)

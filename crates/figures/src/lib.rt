@@ -1,5 +1,6 @@
 // Check figures: weighted totals of digits, and the rules that have them.
 mod finding;
+mod kind;
 mod rules;
 mod total;
 
@@ -7,6 +8,18 @@ pub use finding::Finding;
 pub use finding::decided;
 pub use finding::form_only;
 pub use finding::reason;
+pub use kind::Kind;
+pub use kind::LUHN;
+pub use kind::MOD10;
+pub use kind::MOD11;
+pub use kind::MOD89;
+pub use kind::MOD97;
+pub use kind::Sum;
+pub use kind::lacking;
+pub use kind::passes;
+pub use kind::share;
+pub use kind::sum_of;
+pub use kind::weight;
 pub use rules::abn;
 pub use rules::gln;
 pub use rules::mod11;

@@ -3,6 +3,15 @@ ghost use mathlib.Core.Path.{_≡_};
 ghost use Rattle.figures.specs.Rules.{gln, mod11, mod97, partitaIva, seOrgnr, abn};
 use super::finding::Finding;
 use super::finding::decided;
+use super::kind::ABN_MODULUS;
+use super::kind::ELEVEN;
+use super::kind::GLN_BEFORE;
+use super::kind::LAST;
+use super::kind::LUHN_BEFORE;
+use super::kind::MOD11;
+use super::kind::MOD97;
+use super::kind::TEN;
+use super::kind::belgian_pair;
 use super::total::abn_total;
 use super::total::alternating;
 use super::total::weighted;
@@ -15,19 +24,13 @@ use forms::is_fit;
 use forms::italian;
 use forms::n_digits;
 
-// The weights of an organisation number, from the right.
-const MOD11: [u32; 9] = [1, 2, 3, 4, 5, 6, 7, 2, 3];
-
-// The powers of ten, from the right.
-const POWERS: [u32; 8] = [1, 10, 100, 1000, 10000, 100000, 1000000, 10000000];
-
 // Rule 40 for any number of digits.
 fn gln_of(s: &[u8]) -> Finding
     ensures { λ r. ⌜ r ≡ gln (now (s .entry)) ⌝ }
 {
     let fault = all_digits(s);
     if is_fit(fault) {
-        return decided(alternating(s, 1, 3, false) % 10 == 0);
+        return decided((alternating(s, LAST, GLN_BEFORE, false) as u64) % TEN == 0);
     }
     Finding::Unfit(fault)
 }
@@ -52,7 +55,7 @@ pub fn mod11(s: &[u8]) -> Finding
         if sum == 0 {
             return Finding::Zero;
         }
-        return decided(sum % 11 == 0);
+        return decided((sum as u64) % ELEVEN == 0);
     }
     Finding::Unfit(fault)
 }
@@ -62,10 +65,10 @@ pub fn mod97_0208(s: &[u8]) -> Finding
 {
     let fault = n_digits(s, BELGIAN);
     if is_fit(fault) {
-        let powers = POWERS;
+        let powers = MOD97;
         let body = weighted(&s[0..8], &powers);
         let check = weighted(&s[8..10], &powers);
-        return decided(check == 97 - body % 97);
+        return decided(check as u64 == belgian_pair(body as u64));
     }
     Finding::Unfit(fault)
 }
@@ -76,7 +79,7 @@ pub fn partita_iva(s: &[u8]) -> Finding
 {
     let fault = italian(s);
     if is_fit(fault) {
-        return decided(alternating(&s[2..13], 1, 2, true) % 10 == 0);
+        return decided((alternating(&s[2..13], LAST, LUHN_BEFORE, true) as u64) % TEN == 0);
     }
     Finding::Unfit(fault)
 }
@@ -86,7 +89,7 @@ pub fn se_orgnr(s: &[u8]) -> Finding
 {
     let fault = n_digits(s, SWEDISH);
     if is_fit(fault) {
-        return decided(alternating(s, 1, 2, true) % 10 == 0);
+        return decided((alternating(s, LAST, LUHN_BEFORE, true) as u64) % TEN == 0);
     }
     Finding::Unfit(fault)
 }
@@ -96,7 +99,7 @@ pub fn abn(s: &[u8]) -> Finding
 {
     let fault = n_digits(s, AUSTRALIAN);
     if is_fit(fault) {
-        return decided(abn_total(s) % 89 == 0);
+        return decided(abn_total(s) % (ABN_MODULUS as i64) == 0);
     }
     Finding::Unfit(fault)
 }

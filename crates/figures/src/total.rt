@@ -4,11 +4,12 @@ ghost use mathlib.Core.Bool.{true, false};
 ghost use mathlib.Core.List.{[], _∷_};
 ghost use Prim.Native.Nat.{_+_, _-_, _*_, _%_, _≤_};
 ghost use lib.Dec.{leb};
-ghost use lib.ListN.{length, drop};
+ghost use lib.ListN.{length, take, drop};
 ghost use Rattle.ascii.specs.Class.{isDigit, all};
 ghost use Rattle.figures.specs.Total.{total};
 ghost use Rattle.figures.specs.Figures.{counted, adds};
 ghost use Rattle.figures.specs.Rules.{abnTotal};
+use super::kind::MOD89;
 use ascii::wide;
 
 // What a digit adds by its weight.
@@ -54,7 +55,7 @@ pub(crate) fn alternating(s: &[u8], last: u32, before: u32, fold: bool) -> u32
 
 // The total by a table of weights from the right, for no more digits than it has.
 pub(crate) fn weighted(s: &[u8], weights: &[u32]) -> u32
-    requires { ⌜ all isDigit (now s) ≡ true ⌝ ∗ ⌜ length (now s) ≤ 11 ⌝ ∗ ⌜ length (now s) ≤ length (now weights) ⌝ ∗ ⌜ all (λ w. leb w 10000000) (now weights) ≡ true ⌝ }
+    requires { ⌜ all isDigit (now s) ≡ true ⌝ ∗ ⌜ length (now s) ≤ 11 ⌝ ∗ ⌜ length (now s) ≤ length (now weights) ⌝ ∗ ⌜ all (λ w. leb w 10000000) (take (length (now s)) (now weights)) ≡ true ⌝ }
     ensures exact { λ r. ⌜ r ≡ total (adds false (now (weights .entry))) (now (s .entry)) ⌝ }
     ensures bound { λ r. ⌜ r ≤ 90000000 * length (now (s .entry)) ⌝ }
 {
@@ -69,15 +70,12 @@ pub(crate) fn weighted(s: &[u8], weights: &[u32]) -> u32
     sum
 }
 
-// The weights of an ABN, from the right.
-const ABN: [u32; 11] = [19, 17, 15, 13, 11, 9, 7, 5, 3, 1, 10];
-
 // The exact total of an ABN: from -10 to 980.
 pub(crate) fn abn_total(s: &[u8]) -> i64
     requires { ⌜ all isDigit (now s) ≡ true ⌝ ∗ ⌜ length (now s) ≡ 11 ⌝ }
     ensures { λ r. ⌜ r ≡ abnTotal (now (s .entry)) ⌝ }
 {
-    let weights = ABN;
+    let weights = MOD89;
     let rest = weighted(&s[1..11], &weights);
     let digit = s[0] - 48;
     let first = (digit as i64) - 1;

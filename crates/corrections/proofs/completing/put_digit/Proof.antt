@@ -2,7 +2,7 @@
 use mathlib.Core.Path.{refl}
 use Prim.Native.Nat.{_+_}
 use denote.Ref.{now}
-use Rattle.corrections.proofs.Outcomes.{one-over}
+use Rattle.corrections.proofs.Outcomes.{one-put}
 use borrow.Author.Needs.{needs}
 use Rattle.corrections.proofs.completing.put_digit.Statement.{statement}
 use Rattle.corrections.proofs.completing.put_digit.Tie as tie
@@ -20,7 +20,7 @@ same-length : tie.Need-same-length
 same-length c = search needs
 
 returns : tie.Need-returns
-returns c = record { says = refl; now = one-over (now (c .args .out)) (c .args .check + 48) (c .pre .1) }
+returns c = record { says = refl; now = one-put (now (c .args .out)) (c .args .check + 48) (c .pre .1) }
 
 pub put-digit-spec : {M : Type 1} → statement M
 put-digit-spec = tie.close (tie.spec cast-digit add-out slice-write-out same-length returns)

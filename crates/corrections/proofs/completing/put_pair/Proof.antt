@@ -2,7 +2,7 @@
 use mathlib.Core.Path.{refl}
 use Prim.Native.Nat.{_+_, _/_, _%_}
 use denote.Ref.{now}
-use Rattle.corrections.proofs.Outcomes.{two-over}
+use Rattle.corrections.proofs.Outcomes.{two-put}
 use borrow.Author.Needs.{needs}
 use Rattle.corrections.proofs.completing.put_pair.Statement.{statement}
 use Rattle.corrections.proofs.completing.put_pair.Tie as tie
@@ -29,7 +29,7 @@ same-length : tie.Need-same-length
 same-length c = search needs
 
 returns : tie.Need-returns
-returns c = record { says = refl; now = two-over (now (c .args .out)) (c .args .check / 10 + 48) (c .args .check % 10 + 48) (c .pre .1) }
+returns c = record { says = refl; now = two-put (now (c .args .out)) (c .args .check / 10 + 48) (c .args .check % 10 + 48) (c .pre .1) }
 
 pub put-pair-spec : {M : Type 1} → statement M
 put-pair-spec = tie.close (tie.spec cast-tens cast-units add-out slice-write-out add-out-2 slice-write-out-2 same-length returns)

@@ -1,12 +1,11 @@
 -- `corrections::entries::put_corrections` meets its contract.
-use mathlib.Core.Path.{ap}
 use Prim.Native.Nat.{ℕ, _+_, _-_, _*_, _≤_}
 use denote.Ref.{now}
-use lib.ListN.{length, length-take, length-drop}
+use lib.ListN.{length}
+use Rattle.ascii.proofs.Area.{put-more}
 use Rattle.corrections.specs.Corrections.{corrections}
-use Rattle.corrections.proofs.Exact.{number-digits}
-use Rattle.corrections.proofs.Totals.{least-1}
-use Rattle.corrections.proofs.Areas.{joined-append, filling-then, room-split}
+use Rattle.corrections.proofs.Exact.{number-digits, least-1}
+use Rattle.corrections.proofs.Areas.{joined-append, room-split}
 use native.Mathlib.Omega.{arith}
 use borrow.Author.Needs.{needs}
 use Rattle.corrections.proofs.entries.put_corrections.Statement.{statement}
@@ -26,28 +25,11 @@ put-replacements-requires c κs =
     let a = c .before .before .before .before in
     (a .pre .0, (a .pre .1 .0, omega (arith, room a)))
 
-sub-put-exchanges : tie.Need-sub-put-exchanges
-sub-put-exchanges c =
-    let p = c .before .before .put-replacements in
-    omega (arith, room (c .before .before .before .before .before .before .before), p .ensures .end, p .ensures .most, p .kept .1 .1 .1 .1 .0)
-
-part-put-exchanges-start : tie.Need-part-put-exchanges-start
-part-put-exchanges-start c = sub-put-exchanges c
-
-part-put-exchanges-end : tie.Need-part-put-exchanges-end
-part-put-exchanges-end c = search needs
-
 put-exchanges-requires : tie.Need-put-exchanges-requires
 put-exchanges-requires c κs =
     let a = c .before .before .before .before .before .before .before .before in
     let p = c .before .before .before .put-replacements in
-    (a .pre .0, (a .pre .1 .0, simp (length-take, length-drop) (omega (arith, room a, p .ensures .end, p .ensures .most, p .kept .1 .1 .1 .1 .0))))
-
-add-result : tie.Need-add-result
-add-result c =
-    let p = c .before .before .before .before .before .before .put-replacements in
-    let q = c .before .before .put-exchanges in
-    omega (arith, room (c .before .before .before .before .before .before .before .before .before .before .before), p .ensures .end, p .ensures .most, p .kept .1 .1 .1 .1 .0, q .ensures .end, q .ensures .most)
+    (a .pre .0, (a .pre .1 .0, omega (arith, room a, p .ensures .ends, p .ensures .few, p .kept .1 .1 .1 .1 .0)))
 
 same-length : tie.Need-same-length
 same-length c = search needs
@@ -57,7 +39,7 @@ unfolding corrections
 returns c =
     let a = c .before .before .before .before .before .before .before .before .before .before .before in
     let p = c .before .before .before .before .before .before .put-replacements in
-    rw (joined-append, room-split (len a) (one a)) (filling-then _ _ _ _ _ _ _ _ _ _ (p .ensures) (ap (λ (k : ℕ). k - p .result) (p .kept .1 .1 .1 .1 .0)) (c .before .before .put-exchanges .ensures) (room a))
+    rw (joined-append, room-split (len a) (one a)) (put-more (p .ensures) (c .before .before .put-exchanges .ensures) (omega (arith, room a, p .ensures .few)))
 
 pub put-corrections-spec : {M : Type 1} → statement M
-put-corrections-spec = tie.close (tie.spec put-replacements-requires sub-put-exchanges part-put-exchanges-start part-put-exchanges-end put-exchanges-requires add-result same-length returns)
+put-corrections-spec = tie.close (tie.spec put-replacements-requires put-exchanges-requires same-length returns)

@@ -4,8 +4,8 @@ use Prim.Native.Nat.{_+_, _-_}
 use denote.Ref.{now}
 use lib.ListN.{length, length-set}
 use borrow.Author.Tests.{lt-ltb, le-ltb}
-use Rattle.corrections.specs.Entries.{only}
-use Rattle.corrections.proofs.Areas.{put-row, put-none}
+use Rattle.corrections.specs.Corrections.{only}
+use Rattle.corrections.proofs.Areas.{put-row, put-no-row}
 use native.Mathlib.Omega.{arith}
 use borrow.Author.Needs.{needs}
 use Rattle.corrections.proofs.entries.put_fix.Statement.{statement}
@@ -16,9 +16,6 @@ digit-at-requires c κs = search needs
 
 add-b : tie.Need-add-b
 add-b c = search needs
-
-cast-b : tie.Need-cast-b
-cast-b c = search needs
 
 add-e : tie.Need-add-e
 add-e c = search needs
@@ -47,7 +44,7 @@ returns c =
 
 returns-2 : tie.Need-returns-2
 unfolding only
-returns-2 c = put-none _ _ _ _ (c .before .digit-at .ensures ∙ rw (le-ltb _ 10 (c .if1 .left)))
+returns-2 c = put-no-row _ _ _ _ (c .before .digit-at .ensures ∙ rw (le-ltb _ 10 (c .if1 .left)))
 
 pub put-fix-spec : {M : Type 1} → statement M
-put-fix-spec = tie.close (tie.spec digit-at-requires add-b cast-b add-e sub-put-replaced part-put-replaced-start part-put-replaced-end put-replaced-requires same-length returns returns-2)
+put-fix-spec = tie.close (tie.spec digit-at-requires add-b add-e sub-put-replaced part-put-replaced-start part-put-replaced-end put-replaced-requires same-length returns returns-2)

@@ -3,8 +3,8 @@ use mathlib.Core.Path.{_∙_, sym, refl}
 use Prim.Native.Nat.{_+_, _-_}
 use denote.Ref.{now}
 use lib.ListN.{length, length-set}
-use Rattle.corrections.proofs.Fixes.{kept-yes, kept-no}
-use Rattle.corrections.proofs.Areas.{put-row, put-none}
+use Rattle.corrections.proofs.Fixes.{accepted-yes, accepted-no}
+use Rattle.corrections.proofs.Areas.{put-row, put-no-row}
 use native.Mathlib.Omega.{arith}
 use borrow.Author.Needs.{needs}
 use Rattle.corrections.proofs.entries.put_swap.Statement.{statement}
@@ -35,10 +35,10 @@ returns : tie.Need-returns
 returns c =
     let a = c .before .before .before .before .before .before .before .before .before in
     let n = length (now (a .args .s)) in
-    put-row n (now (a .args .out)) (a .args .at) (a .args .at + n - a .args .at) (a .args .at + n) (c .before .before .put-exchanged .last .0) _ _ (c .before .before .put-exchanged .ensures) (kept-yes _ _ (sym (c .before .before .before .before .before .accepts-exchanged .ensures) ∙ c .before .before .before .before .if1 .taken)) (simp length-set) refl (omega arith)
+    put-row n (now (a .args .out)) (a .args .at) (a .args .at + n - a .args .at) (a .args .at + n) (c .before .before .put-exchanged .last .0) _ _ (c .before .before .put-exchanged .ensures) (accepted-yes _ _ (sym (c .before .before .before .before .before .accepts-exchanged .ensures) ∙ c .before .before .before .before .if1 .taken)) (simp length-set) refl (omega arith)
 
 returns-2 : tie.Need-returns-2
-returns-2 c = put-none _ _ _ _ (kept-no _ _ (sym (c .before .accepts-exchanged .ensures) ∙ c .if1 .left))
+returns-2 c = put-no-row _ _ _ _ (accepted-no _ _ (sym (c .before .accepts-exchanged .ensures) ∙ c .if1 .left))
 
 pub put-swap-spec : {M : Type 1} → statement M
 put-swap-spec = tie.close (tie.spec accepts-exchanged-requires add-e sub-put-exchanged part-put-exchanged-start part-put-exchanged-end put-exchanged-requires same-length returns returns-2)

@@ -1,93 +1,152 @@
 -- `corrections::found::accepts_exchanged` meets its contract.
-use mathlib.Core.Path.{_∙_}
+use mathlib.Core.Path.{_≡_, _∙_, ap}
 use denote.Ref.{now}
-use Prim.Native.Nat.{_+_}
+use Prim.Native.Nat.{ℕ, _+_, _-_, _*_, _≤_}
+use lib.ListN.{length, getD}
 use Rattle.ascii.specs.Class.{isDigit}
-use Rattle.ascii.proofs.Class.{all-at}
-use Rattle.corrections.proofs.Exact.{number-digits, sum-small, shares-within, exchanged-test}
+use Rattle.ascii.proofs.Class.{all-at, digit-bounds}
+use Rattle.figures.specs.Total.{digitAt}
+use Rattle.figures.specs.Figures.{counted}
+use Rattle.figures.specs.Inner.{figureBy, totalPasses}
+use Rattle.figures.proofs.Adding.{share-small}
+use Rattle.corrections.proofs.Exact.{sharing, shared, number-digits, sum-small, shares-within, exchanged-test}
 use native.Mathlib.Omega.{arith}
 use borrow.Author.Needs.{needs}
 use Rattle.corrections.proofs.found.accepts_exchanged.Statement.{statement}
 use Rattle.corrections.proofs.found.accepts_exchanged.Tie as tie
 
-shared-slice-read-digit-value : tie.Need-shared-slice-read-digit-value
-shared-slice-read-digit-value c = search needs
+-- the digit at a place
+digit : (a : tie.Start) (i : ℕ) → i ≤ a .args .i + 1 → (48 ≤ getD (now (a .args .s)) i 0) × (digitAt (now (a .args .s)) i ≤ 9)
+digit a i l =
+    let s = now (a .args .s) in
+    let d = digit-bounds (getD s i 0) (all-at isDigit s i (number-digits (a .args .kind) s (a .args .sum) (a .pre .1 .0) .digit) (omega (arith, a .pre .1 .1))) in
+    (omega arith, omega arith)
 
-digit-value-requires : tie.Need-digit-value-requires
-digit-value-requires c κs =
-    let a = c .before .before .before in
-    all-at isDigit (now (a .args .s)) (a .args .i) (number-digits (a .args .kind) (now (a .args .s)) (a .args .sum) (a .pre .1 .0) .digit) (omega (arith, a .pre .1 .1))
+abbrev st : tie.After-weight2 → tie.Start
+st t = t .before .before .before .before .before .before .before
 
-add-digit-value : tie.Need-add-digit-value
-add-digit-value c = search needs
+-- what a digit adds at the two places, and how much that is at most
+module _ (t : tie.After-weight2) (d r : ℕ) where
+  far : r ≡ counted (figureBy (t .before .before .before .before .figure .result) .fold) (t .before .weight .result * d) → r ≡ sharing (st t .args .kind) (length (now (st t .args .s)) - 1 - st t .args .i) d
+  far h =
+      shared (st t .args .kind) (t .before .before .before .before .figure .result) (now (st t .args .weights)) (length (now (st t .args .s)) - 1 - st t .args .i) (t .before .weight .result) d
+      (t .before .before .before .before .figure .ensures) (st t .pre .0) (t .before .weight .ensures) h
 
-shared-slice-read-digit-value-2 : tie.Need-shared-slice-read-digit-value-2
-shared-slice-read-digit-value-2 c = search needs
+  near : r ≡ counted (figureBy (t .before .before .before .before .figure .result) .fold) (t .weight2 .result * d) → r ≡ sharing (st t .args .kind) (length (now (st t .args .s)) - 1 - (st t .args .i + 1)) d
+  near h =
+      shared (st t .args .kind) (t .before .before .before .before .figure .result) (now (st t .args .weights)) (length (now (st t .args .s)) - 1 - (st t .args .i + 1)) (t .weight2 .result) d
+      (t .before .before .before .before .figure .ensures) (st t .pre .0) (t .weight2 .ensures) h
 
-digit-value-requires-2 : tie.Need-digit-value-requires-2
-digit-value-requires-2 c κs =
-    let a = c .before .before .before .before .before in
-    all-at isDigit (now (a .args .s)) (a .args .i + 1) (number-digits (a .args .kind) (now (a .args .s)) (a .args .sum) (a .pre .1 .0) .digit) (omega (arith, a .pre .1 .1))
+  far-small : r ≡ counted (figureBy (t .before .before .before .before .figure .result) .fold) (t .before .weight .result * d) → d ≤ 9 → r ≤ 38654705664
+  far-small h l = rw h (share-small (figureBy (t .before .before .before .before .figure .result) .fold) (t .before .weight .result) d (omega arith) l)
 
-sub-j : tie.Need-sub-j
-sub-j c = search needs
+  near-small : r ≡ counted (figureBy (t .before .before .before .before .figure .result) .fold) (t .weight2 .result * d) → d ≤ 9 → r ≤ 38654705664
+  near-small h l = rw h (share-small (figureBy (t .before .before .before .before .figure .result) .fold) (t .weight2 .result) d (omega arith) l)
 
-sub-j-2 : tie.Need-sub-j-2
-sub-j-2 c = search needs
+abbrev at : tie.After-share4 → tie.After-weight2
+at t = t .before .before .before .before
 
-sub-k : tie.Need-sub-k
-sub-k c = search needs
+abbrev one : tie.After-weight2 → ℕ
+one t = digitAt (now (st t .args .s)) (st t .args .i)
 
-add-k : tie.Need-add-k
-add-k c = search needs
+abbrev two : tie.After-weight2 → ℕ
+two t = digitAt (now (st t .args .s)) (st t .args .i + 1)
 
-sub-k-2 : tie.Need-sub-k-2
-sub-k-2 c = search needs
+small-new : (t : tie.After-share4) → t .before .share3 .result + t .share4 .result ≤ 77309411328
+small-new t =
+    omega (
+      arith,
+      far-small (at t) (two (at t)) (t .before .share3 .result) (t .before .share3 .ensures) (digit (st (at t)) (st (at t) .args .i + 1) (omega arith) .1),
+      near-small (at t) (one (at t)) (t .share4 .result) (t .share4 .ensures) (digit (st (at t)) (st (at t) .args .i) (omega arith) .1),
+    )
+
+figure-requires : tie.Need-figure-requires
+figure-requires c κs = search needs
+
+shared-slice-read-a : tie.Need-shared-slice-read-a
+shared-slice-read-a c = search needs
+
+sub-a : tie.Need-sub-a
+sub-a c = digit (c .before .before .before .before) (c .before .before .before .before .args .i) (omega arith) .0
+
+add-b : tie.Need-add-b
+add-b c = search needs
+
+shared-slice-read-b : tie.Need-shared-slice-read-b
+shared-slice-read-b c = search needs
+
+sub-b : tie.Need-sub-b
+sub-b c = digit (c .before .before .before .before .before) (c .before .before .before .before .before .args .i + 1) (omega arith) .0
+
+sub-weight : tie.Need-sub-weight
+sub-weight c = search needs
+
+sub-weight-2 : tie.Need-sub-weight-2
+sub-weight-2 c = search needs
+
+weight-requires : tie.Need-weight-requires
+weight-requires c κs = search needs
+
+sub-weight-3 : tie.Need-sub-weight-3
+sub-weight-3 c = search needs
+
+add-weight : tie.Need-add-weight
+add-weight c = search needs
+
+sub-weight-4 : tie.Need-sub-weight-4
+sub-weight-4 c = search needs
+
+weight-requires-2 : tie.Need-weight-requires-2
+weight-requires-2 c κs = search needs
 
 share-requires : tie.Need-share-requires
-share-requires c κs =
-    let a = c .before .before .before .before .before .before in
-    (a .pre .0, (omega (arith, number-digits (a .args .kind) (now (a .args .s)) (a .args .sum) (a .pre .1 .0) .most, a .pre .1 .1), c .before .before .digit-value .ensures .1))
+share-requires c κs = search needs
 
 share-requires-2 : tie.Need-share-requires-2
-share-requires-2 c κs =
-    let a = c .before .before .before .before .before .before .before in
-    (a .pre .0, (omega (arith, number-digits (a .args .kind) (now (a .args .s)) (a .args .sum) (a .pre .1 .0) .most, a .pre .1 .1), c .before .digit-value2 .ensures .1))
+share-requires-2 c κs = search needs
 
 add-was : tie.Need-add-was
-add-was c = omega (arith, c .share2 .ensures .1, c .before .share .ensures .1)
+add-was c =
+    let t = c .before .before in
+    omega (
+      arith,
+      far-small t (one t) (c .before .share .result) (c .before .share .ensures) (digit (st t) (st t .args .i) (omega arith) .1),
+      near-small t (two t) (c .share2 .result) (c .share2 .ensures) (digit (st t) (st t .args .i + 1) (omega arith) .1),
+    )
 
 share-requires-3 : tie.Need-share-requires-3
-share-requires-3 c κs =
-    let a = c .before .before .before .before .before .before .before .before in
-    (a .pre .0, (omega (arith, number-digits (a .args .kind) (now (a .args .s)) (a .args .sum) (a .pre .1 .0) .most, a .pre .1 .1), c .before .before .digit-value2 .ensures .1))
+share-requires-3 c κs = search needs
 
 share-requires-4 : tie.Need-share-requires-4
-share-requires-4 c κs =
-    let a = c .before .before .before .before .before .before .before .before .before in
-    (a .pre .0, (omega (arith, number-digits (a .args .kind) (now (a .args .s)) (a .args .sum) (a .pre .1 .0) .most, a .pre .1 .1), c .before .before .before .before .before .digit-value .ensures .1))
+share-requires-4 c κs = search needs
 
 add-new : tie.Need-add-new
-add-new c = omega (arith, c .share4 .ensures .1, c .before .share3 .ensures .1)
+add-new c = omega (arith, small-new c)
 
 add-passes : tie.Need-add-passes
 add-passes c =
-    let a = c .before .before .before .before .before .before .before .before .before .before in
-    omega (arith, c .share4 .ensures .1, c .before .share3 .ensures .1, sum-small (a .args .kind) (now (a .args .s)) (a .args .sum) (a .pre .1 .0))
+    let a = st (at c) in
+    omega (arith, small-new c, sum-small (a .args .kind) (now (a .args .s)) (a .args .sum) (a .pre .1 .0))
 
 sub-passes : tie.Need-sub-passes
 sub-passes c =
-    let a = c .before .before .before .before .before .before .before .before .before .before in
-    shares-within (a .args .kind) (now (a .args .s)) (a .args .sum) (a .pre .1 .0) _ _ _ _ _ _ _ (a .pre .1 .1) (c .before .before .before .before .before .before .digit-value .ensures .0) (c .before .before .before .before .digit-value2 .ensures .0) (c .before .before .before .share .ensures .0) (c .before .before .share2 .ensures .0) (c .before .share3 .ensures .0) (c .share4 .ensures .0)
+    let t = at c in
+    let a = st t in
+    shares-within (a .args .kind) (now (a .args .s)) (a .args .sum) (a .pre .1 .0) (a .args .i) _ _ _ _ (a .pre .1 .1)
+    (far t (one t) _ (c .before .before .before .share .ensures)) (near t (two t) _ (c .before .before .share2 .ensures)) (far t (two t) _ (c .before .share3 .ensures)) (near t (one t) _ (c .share4 .ensures))
 
 passes-requires : tie.Need-passes-requires
 passes-requires c κs = search needs
 
 returns : tie.Need-returns
 returns c =
-    let a = c .before .before .before .before .before .before .before .before .before .before .before in
+    let u = c .before in
+    let t = at u in
+    let a = st t in
     c .passes .ensures
-    ∙ exchanged-test (a .args .kind) (now (a .args .s)) (a .args .sum) (a .pre .1 .0) _ _ _ _ _ _ _ (a .pre .1 .1) (c .before .before .before .before .before .before .before .digit-value .ensures .0) (c .before .before .before .before .before .digit-value2 .ensures .0) (c .before .before .before .before .share .ensures .0) (c .before .before .before .share2 .ensures .0) (c .before .before .share3 .ensures .0) (c .before .share4 .ensures .0)
+    ∙ ap (λ f. totalPasses f (a .args .sum + (u .before .share3 .result + u .share4 .result) - (u .before .before .before .share .result + u .before .before .share2 .result))) (t .before .before .before .before .figure .ensures)
+    ∙ exchanged-test (a .args .kind) (now (a .args .s)) (a .args .sum) (a .pre .1 .0) (a .args .i) _ _ _ _ (a .pre .1 .1)
+    (far t (one t) _ (u .before .before .before .share .ensures)) (near t (two t) _ (u .before .before .share2 .ensures)) (far t (two t) _ (u .before .share3 .ensures)) (near t (one t) _ (u .share4 .ensures))
 
 pub accepts-exchanged-spec : {M : Type 1} → statement M
-accepts-exchanged-spec = tie.close (tie.spec shared-slice-read-digit-value digit-value-requires add-digit-value shared-slice-read-digit-value-2 digit-value-requires-2 sub-j sub-j-2 sub-k add-k sub-k-2 share-requires share-requires-2 add-was share-requires-3 share-requires-4 add-new add-passes sub-passes passes-requires returns)
+accepts-exchanged-spec = tie.close (tie.spec figure-requires shared-slice-read-a sub-a add-b shared-slice-read-b sub-b sub-weight sub-weight-2 weight-requires sub-weight-3 add-weight sub-weight-4 weight-requires-2 share-requires share-requires-2 add-was share-requires-3 share-requires-4 add-new add-passes sub-passes passes-requires returns)

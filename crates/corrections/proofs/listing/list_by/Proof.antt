@@ -1,13 +1,14 @@
 -- `corrections::listing::list_by` meets its contract.
 use mathlib.Core.Path.{_≡_, sym, ap, _∙_}
 use denote.Ref.{now}
+use Rattle.ascii.specs.Pick.{pick}
 use Rattle.answer.proofs.Laws.{is-none, is-given}
 use Rattle.text.specs.declared.area.Text.{Text}
 use Rattle.text.specs.Answer.{readableOf, textOf}
 use Rattle.text.proofs.Laws.{reason-normal, text-area}
-use Rattle.corrections.specs.Outcome.{refusedBy}
-use Rattle.corrections.specs.Listing.{listedText, listedBy}
-use Rattle.corrections.proofs.Outcomes.{works-refused, unless-none, unless-given}
+use Rattle.corrections.specs.Outcome.{refusedWith}
+use Rattle.corrections.specs.Listing.{foundIn, listedFor}
+use Rattle.corrections.proofs.Outcomes.{works-refused}
 use borrow.Author.Needs.{needs}
 use Rattle.corrections.proofs.listing.list_by.Statement.{statement}
 use Rattle.corrections.proofs.listing.list_by.Tie as tie
@@ -39,20 +40,20 @@ same-length : tie.Need-same-length
 same-length c = search needs
 
 returns : tie.Need-returns
-unfolding listedBy
+unfolding listedFor foundIn pick
 returns c =
     let t = c .before .before .before .before .before .before .before in
     let e = c .before .before .before .before .first-bytes .ensures ∙ ap (λ (x : Text). textOf x) (t .before .normalize-into .ensures) in
-    rw (unless-none (readableOf (now (st t .args .content))) (listedText (st t .args .kind) _ _) (rw (why t) at (is-none (t .before .normalize-into .result .reason) (t .number .ensures) (c .before .before .before .before .before .before .if1 .taken))), ← e) (c .before .before .list-text .ensures)
+    rw (rw (why t) at (is-none (t .before .normalize-into .result .reason) (t .number .ensures) (c .before .before .before .before .before .before .if1 .taken)), ← e) (c .before .before .list-text .ensures)
 
 refused-requires : tie.Need-refused-requires
 refused-requires c κs = search needs
 
 returns-2 : tie.Need-returns-2
-unfolding listedBy
+unfolding listedFor foundIn pick
 returns-2 c =
     let t = c .before .before in
-    works-refused _ _ (unless-given (readableOf (now (st t .args .content))) _ (rw (why t) at (is-given (t .before .normalize-into .result .reason) (t .number .ensures) (c .before .if1 .left)))) (c .refused .ensures ∙ ap refusedBy (why t))
+    works-refused (readableOf (now (st t .args .content))) _ (rw (rw (why t) at (is-given (t .before .normalize-into .result .reason) (t .number .ensures) (c .before .if1 .left)))) (c .refused .ensures ∙ ap (λ r. refusedWith r .says) (why t))
 
 pub list-by-spec : {M : Type 1} → statement M
 list-by-spec = tie.close (tie.spec normalize-into-requires number-requires slice-aggregate-first-bytes first-bytes-requires list-text-requires same-length returns refused-requires returns-2)

@@ -1,47 +1,67 @@
 -- `corrections::listing::list_number` meets its contract.
-use mathlib.Core.Path.{_∙_, sym}
-use Prim.Native.Nat.{_≤_}
+use mathlib.Core.Path.{_≡_, _∙_, sym, ap}
+use mathlib.Core.Bool.{Bool}
+use Prim.Native.Nat.{ℕ, _≤_}
 use denote.Ref.{now}
 use lib.ListN.{length}
-use Rattle.forms.proofs.OfDigits.{Digits, digits-true}
-use Rattle.corrections.specs.Listing.{leastOf, mostOf}
-use Rattle.corrections.specs.Totals.{share, Summed}
+use Rattle.forms.specs.Form.{faultOf}
+use Rattle.forms.specs.Table.{digits}
+use Rattle.figures.specs.declared.kind.Sum.{Sum}
+use Rattle.figures.specs.Figures.{totalBy}
+use Rattle.figures.specs.Inner.{figureBy, totalPasses, summed}
+use Rattle.figures.proofs.Adding.{sum-means, unfit-means}
+use Rattle.rules.specs.Finding.{accepts}
+use Rattle.corrections.specs.declared.five.Row.{Row}
+use Rattle.corrections.specs.Five.{row, ruleOf, numberForm}
+use Rattle.corrections.specs.Listing.{entriesOf}
+use Rattle.corrections.specs.Inner.{addsBy, Summed}
 use Rattle.corrections.proofs.Areas.{small-joined}
-use Rattle.corrections.proofs.Checks.{with-none}
-use Rattle.corrections.proofs.Exact.{number-passes}
-use Rattle.corrections.proofs.Outcomes.{works-refused}
-use Rattle.corrections.proofs.Rows.{listed-good, listed-room, listed-done}
-use Rattle.corrections.proofs.Totals.{least-1, most-20}
+use Rattle.corrections.proofs.Exact.{most-20, least-1, number-digits, number-passes}
+use Rattle.corrections.proofs.Outcomes.{works-refused, room-short}
+use Rattle.corrections.proofs.Rows.{listed-unfit, listed-good, listed-wrong, entries-done}
 use native.Mathlib.Omega.{arith}
 use borrow.Author.Needs.{needs}
 use Rattle.corrections.proofs.listing.list_number.Statement.{statement}
 use Rattle.corrections.proofs.listing.list_number.Tie as tie
 
-digits : (c : tie.Start) → Digits (leastOf (c .args .kind)) (mostOf (c .args .kind)) (now (c .args .s))
-digits c = digits-true (leastOf (c .args .kind)) (mostOf (c .args .kind)) (now (c .args .s)) (c .pre)
-
-short : (c : tie.Start) → (1 ≤ length (now (c .args .s))) × (length (now (c .args .s)) ≤ 20)
-short c = (omega (arith, least-1 (c .args .kind), digits c .least), omega (arith, most-20 (c .args .kind), digits c .most))
-
-abbrev st : tie.After-total-of → tie.Start
+-- the sum that was asked for, by the row of the scheme
+abbrev st : tie.After-sum-of → tie.Start
 st t = t .before .before .before .before .before
 
-summed : (t : tie.After-total-of) → Summed (st t .args .kind) (now (st t .args .s)) (t .total-of .result)
-summed t = record { formed = st t .pre; sum-is = t .total-of .ensures .0 ∙ sym (with-none (share (st t .args .kind)) (now (st t .args .s))) }
+sum-is : (t : tie.After-sum-of) → t .sum-of .result ≡ summed (faultOf (numberForm (st t .args .kind)) (now (st t .args .s))) (totalBy (addsBy (st t .args .kind)) (now (st t .args .s)))
+sum-is t =
+    t .sum-of .ensures
+    ∙ ap (λ (q : Row). summed (faultOf (digits (q .least) (q .most)) (now (st t .args .s))) (totalBy (figureBy (q .figure)) (now (st t .args .s)))) (t .before .row .ensures)
 
-weights-of-requires : tie.Need-weights-of-requires
-weights-of-requires c κs = search needs
+abbrev at : tie.After-known-told → tie.After-sum-of
+at t = t .before .before .before
 
-slice-aggregate-total-of : tie.Need-slice-aggregate-total-of
-slice-aggregate-total-of c = search needs
+formed : (t : tie.After-known-told) → Summed (st (at t) .args .kind) (now (st (at t) .args .s)) (t .before .sum .given .0 .0)
+formed t = let m = sum-means _ _ (sym (sum-is (at t)) ∙ t .before .sum .given .1) in record { formed = m .0; sum-is = sym (m .1) }
 
-total-of-requires : tie.Need-total-of-requires
-total-of-requires c κs =
-    let a = c .before .before .before .before in
-    (c .before .weights-of .ensures, (digits a .digit, omega (arith, digits a .most)))
+short : (t : tie.After-known-told) → (1 ≤ length (now (st (at t) .args .s))) × (length (now (st (at t) .args .s)) ≤ 20)
+short t =
+    let k = st (at t) .args .kind in
+    let d = number-digits k (now (st (at t) .args .s)) _ (formed t) in
+    (omega (arith, least-1 k, d .least), omega (arith, most-20 k, d .most))
 
-passes-requires : tie.Need-passes-requires
-passes-requires c κs = search needs
+accepted : (t : tie.After-passes) → t .passes .result ≡ accepts (ruleOf (st (at (t .before)) .args .kind)) (now (st (at (t .before)) .args .s))
+accepted t =
+    t .passes .ensures
+    ∙ ap (λ (q : Row). totalPasses (q .figure) (t .before .before .sum .given .0 .0)) (t .before .before .before .before .before .row .ensures)
+    ∙ number-passes _ _ _ (formed (t .before))
+
+row-requires : tie.Need-row-requires
+row-requires c κs = search needs
+
+sum-of-requires : tie.Need-sum-of-requires
+sum-of-requires c κs = search needs
+
+enum-known-sum : tie.Need-enum-known-sum
+enum-known-sum c = search needs
+
+enum-told : tie.Need-enum-told
+enum-told c = search needs
 
 refused-requires : tie.Need-refused-requires
 refused-requires c κs = search needs
@@ -49,43 +69,56 @@ refused-requires c κs = search needs
 returns : tie.Need-returns
 returns c =
     let t = c .before .before .before in
-    works-refused _ _ (listed-good (st t .args .kind) (now (st t .args .s)) _ (sym (number-passes _ _ _ (summed t)) ∙ sym (c .before .before .passes .ensures) ∙ c .before .if1 .taken)) (c .refused .ensures)
+    works-refused _ _ (listed-unfit (st t .args .kind) (now (st t .args .s)) _ (unfit-means (faultOf (numberForm (st t .args .kind)) (now (st t .args .s))) (totalBy (addsBy (st t .args .kind)) (now (st t .args .s))) (sym (sum-is t) ∙ c .before .enum-told .given .1))) (c .refused .ensures)
 
-mul-if2 : tie.Need-mul-if2
-mul-if2 c = search needs
-
-sub-if2 : tie.Need-sub-if2
-sub-if2 c = omega (arith, short (c .before .before .before .before .before .before .before) .0)
-
-mul-if2-2 : tie.Need-mul-if2-2
-mul-if2-2 c = omega (arith, small-joined _ (short (c .before .before .before .before .before .before .before) .1))
+passes-requires : tie.Need-passes-requires
+passes-requires c κs = search needs
 
 refused-requires-2 : tie.Need-refused-requires-2
 refused-requires-2 c κs = search needs
 
 returns-2 : tie.Need-returns-2
 returns-2 c =
-    let t = c .before .before .before .before in
-    works-refused _ _ (listed-room (st t .args .kind) (now (st t .args .s)) _ (sym (number-passes _ _ _ (summed t)) ∙ sym (c .before .before .before .passes .ensures) ∙ c .before .before .if1 .left) (c .before .if2 .taken)) (c .refused2 .ensures)
+    let t = c .before .before .before in
+    let a = st (at t) in
+    works-refused _ _ (listed-good (a .args .kind) (now (a .args .s)) _ (formed t .formed) (sym (accepted (c .before .before)) ∙ c .before .if1 .taken)) (c .refused2 .ensures)
 
-slice-aggregate-put-corrections : tie.Need-slice-aggregate-put-corrections
-slice-aggregate-put-corrections c = search needs
+mul-if2 : tie.Need-mul-if2
+mul-if2 c = omega (arith, short (c .before .before) .1)
+
+sub-if2 : tie.Need-sub-if2
+sub-if2 c = omega (arith, short (c .before .before) .0)
+
+mul-if2-2 : tie.Need-mul-if2-2
+mul-if2-2 c = omega (arith, small-joined _ (short (c .before .before) .1))
+
+refused-requires-3 : tie.Need-refused-requires-3
+refused-requires-3 c κs = search needs
+
+returns-3 : tie.Need-returns-3
+unfolding entriesOf
+returns-3 c =
+    let t = c .before .before .before .before in
+    let a = st (at t) in
+    works-refused _ _ (listed-wrong (a .args .kind) (now (a .args .s)) _ (formed t .formed) (sym (accepted (c .before .before .before)) ∙ c .before .before .if1 .left) ∙ room-short _ _ _ (c .before .if2 .taken)) (c .refused3 .ensures)
 
 put-corrections-requires : tie.Need-put-corrections-requires
 put-corrections-requires c κs =
-    let t = c .before .before .before .before .before in
-    (t .before .before .weights-of .ensures, (summed t, c .before .before .if2 .left))
+    let t = c .before .before .before .before in
+    (st (at t) .pre, (formed t, c .before .if2 .left))
 
-div-t13 : tie.Need-div-t13
-div-t13 c = omega (arith, short (c .before .before .before .before .before .before .before .before .before .before .before .before .before) .0)
+div-t14 : tie.Need-div-t14
+div-t14 c = omega (arith, short (c .before .before .before .before .before .before .before) .0)
 
 same-length : tie.Need-same-length
 same-length c = search needs
 
-returns-3 : tie.Need-returns-3
-returns-3 c =
-    let t = c .before .before .before .before .before .before .before .before in
-    listed-done (st t .args .kind) (now (st t .args .s)) _ _ _ _ (sym (number-passes _ _ _ (summed t)) ∙ sym (c .before .before .before .before .before .before .before .passes .ensures) ∙ c .before .before .before .before .before .before .if1 .left) (c .before .before .before .before .before .if2 .left) (short (st t) .0) (c .before .before .put-corrections .ensures)
+returns-4 : tie.Need-returns-4
+returns-4 c =
+    let t = c .before .before .before .before .before .before .before in
+    let a = st (at t) in
+    rw (listed-wrong (a .args .kind) (now (a .args .s)) (entriesOf (a .args .kind) (now (a .args .s)) (length (now (a .args .out)))) (formed t .formed) (sym (accepted (c .before .before .before .before .before .before)) ∙ c .before .before .before .before .before .if1 .left))
+    (entries-done (a .args .kind) (now (a .args .s)) _ _ _ _ (c .before .before .before .before .if2 .left) (short t .0) (c .before .before .put-corrections .ensures))
 
 pub list-number-spec : {M : Type 1} → statement M
-list-number-spec = tie.close (tie.spec weights-of-requires slice-aggregate-total-of total-of-requires passes-requires refused-requires returns mul-if2 sub-if2 mul-if2-2 refused-requires-2 returns-2 slice-aggregate-put-corrections put-corrections-requires div-t13 same-length returns-3)
+list-number-spec = tie.close (tie.spec row-requires sum-of-requires enum-known-sum enum-told refused-requires returns passes-requires refused-requires-2 returns-2 mul-if2 sub-if2 mul-if2-2 refused-requires-3 returns-3 put-corrections-requires div-t14 same-length returns-4)

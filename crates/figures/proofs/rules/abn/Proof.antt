@@ -28,6 +28,9 @@ abn-total-requires c κs =
     let d = digits-fit 11 11 s (fitted _ (c .before .is-fit .ensures) (c .before .before .n-digits .ensures) (c .if1 .taken)) in
     (d .digit, omega arith)
 
+cast-decided : tie.Need-cast-decided
+cast-decided c = search needs
+
 rem-decided : tie.Need-rem-decided
 rem-decided c =
     let f : SFits w64 (c .abn-total .result) = record { sfits = c .abn-total .ok } in
@@ -54,4 +57,4 @@ returns-2 c = unfitted _ (c .before .is-fit .ensures) (c .before .before .n-digi
 pub abn-spec : {M : Type 1} → statement M
 abn-spec =
     tie.close
-    (tie.spec n-digits-requires is-fit-requires abn-total-requires rem-decided decided-requires returns returns-2)
+    (tie.spec n-digits-requires is-fit-requires abn-total-requires cast-decided rem-decided decided-requires returns returns-2)

@@ -22,6 +22,9 @@ alternating-requires c κs =
     let d = digits-fit 1 1024 s (fitted _ (c .before .is-fit .ensures) (c .before .before .all-digits .ensures) (c .if1 .taken)) in
     (d .digit, (d .most, (omega arith, omega arith)))
 
+cast-decided : tie.Need-cast-decided
+cast-decided c = search needs
+
 decided-requires : tie.Need-decided-requires
 decided-requires c κs = search needs
 
@@ -39,4 +42,4 @@ returns-2 c = unfitted _ (c .before .is-fit .ensures) (c .before .before .all-di
 pub gln-of-spec : {M : Type 1} → statement M
 gln-of-spec =
     tie.close
-    (tie.spec all-digits-requires is-fit-requires alternating-requires decided-requires returns returns-2)
+    (tie.spec all-digits-requires is-fit-requires alternating-requires cast-decided decided-requires returns returns-2)

@@ -1,8 +1,9 @@
 -- `figures::rules::mod11` meets its contract. Assumes nothing.
 use Prim.Native.Nat.{_%_}
-use mathlib.Core.Path.{refl, _∙_, sym, ap}
+use mathlib.Core.Path.{_≡_, refl, _∙_, sym, ap}
 use native.Mathlib.Omega.{arith}
 use lib.Dec.{eqb}
+use lib.ListN.{length}
 use borrow.Author.Needs.{needs}
 use borrow.Author.Tests.{eq-eqb, ne-eqb}
 use Rattle.ascii.specs.Class.{all}
@@ -28,7 +29,8 @@ weighted-requires c κs =
     let b = c .before .before in
     let s = b .before .before .before .args .s .now in
     let d = digits-fit 9 9 s (fitted _ (b .is-fit .ensures) (b .before .n-digits .ensures) (c .before .if1 .taken)) in
-    (d .digit, (omega arith, (omega arith, refl)))
+    let n : length s ≡ 9 = omega arith in
+    (d .digit, (omega arith, (omega arith, rw n refl)))
 
 returns : tie.Need-returns
 unfolding mod11
@@ -37,6 +39,9 @@ returns c =
     let s = b .before .before .before .args .s .now in
     let f = fitted _ (b .is-fit .ensures) (b .before .n-digits .ensures) (c .before .before .before .if1 .taken) in
     met-zero _ f (sym (zeros41 s (digits-fit 9 9 s f .digit)) ∙ eq-eqb _ _ (sym (c .before .weighted .ensures .0) ∙ c .if2 .taken))
+
+cast-decided : tie.Need-cast-decided
+cast-decided c = search needs
 
 decided-requires : tie.Need-decided-requires
 decided-requires c κs = search needs
@@ -64,6 +69,6 @@ mod11-spec =
     slice-aggregate-weighted
     weighted-requires
     returns
-    decided-requires
+    cast-decided decided-requires
     returns-2
     returns-3)

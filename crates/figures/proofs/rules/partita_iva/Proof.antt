@@ -37,6 +37,9 @@ alternating-requires c κs =
     let d = italian-digits s (fitted _ (b .is-fit .ensures) (b .before .italian .ensures) (c .before .if1 .taken)) in
     rw (cut 2 13 s (d .0)) (d .1, (omega (arith, length-drop 2 s), (omega arith, omega arith)))
 
+cast-decided : tie.Need-cast-decided
+cast-decided c = search needs
+
 decided-requires : tie.Need-decided-requires
 decided-requires c κs = search needs
 
@@ -64,6 +67,6 @@ partita-iva-spec =
     part-alternating-start
     part-alternating-end
     alternating-requires
-    decided-requires
+    cast-decided decided-requires
     returns
     returns-2)

@@ -22,6 +22,9 @@ alternating-requires c κs =
     let d = digits-fit 10 10 s (fitted _ (c .before .is-fit .ensures) (c .before .before .n-digits .ensures) (c .if1 .taken)) in
     (d .digit, (omega arith, (omega arith, omega arith)))
 
+cast-decided : tie.Need-cast-decided
+cast-decided c = search needs
+
 decided-requires : tie.Need-decided-requires
 decided-requires c κs = search needs
 
@@ -39,4 +42,4 @@ returns-2 c = unfitted _ (c .before .is-fit .ensures) (c .before .before .n-digi
 pub se-orgnr-spec : {M : Type 1} → statement M
 se-orgnr-spec =
     tie.close
-    (tie.spec n-digits-requires is-fit-requires alternating-requires decided-requires returns returns-2)
+    (tie.spec n-digits-requires is-fit-requires alternating-requires cast-decided decided-requires returns returns-2)

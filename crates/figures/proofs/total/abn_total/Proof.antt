@@ -1,9 +1,9 @@
 -- `figures::total::abn_total` meets its contract. Assumes nothing.
 use Prim.Native.Nat.{_-_, _≤_}
-use mathlib.Core.Path.{refl, _∙_, ap}
+use mathlib.Core.Path.{_≡_, refl, _∙_, ap}
 use native.Mathlib.Omega.{arith}
 use lib.IntN.{pos, _+ℤ_, _-ℤ_, _*ℤ_}
-use lib.ListN.{getD, length-drop}
+use lib.ListN.{length, getD, drop, length-drop}
 use borrow.Author.Needs.{needs}
 use Rattle.ascii.specs.Class.{isDigit, all}
 use Rattle.ascii.proofs.Class.{digit-bounds, all-at, all-drop}
@@ -41,7 +41,8 @@ unfolding all
 weighted-requires c κs =
     let a = c .before .before .before in
     let s = a .args .s .now in
-    rw (cut 1 11 s (a .pre .1)) (all-drop isDigit 1 s (a .pre .0), (omega (arith, length-drop 1 s), (omega (arith, length-drop 1 s), refl)))
+    let n : length (drop 1 s) ≡ 10 = omega (arith, length-drop 1 s) in
+    rw (cut 1 11 s (a .pre .1)) (all-drop isDigit 1 s (a .pre .0), (omega (arith, length-drop 1 s), (omega (arith, length-drop 1 s), rw n refl)))
 
 shared-slice-read-digit : tie.Need-shared-slice-read-digit
 shared-slice-read-digit c = search needs

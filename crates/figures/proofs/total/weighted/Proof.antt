@@ -1,18 +1,24 @@
 -- `figures::total::weighted` meets its contract. The invariant: the sum so far and what is left make the total. Assumes nothing.
-use Prim.Native.Nat.{_+_, _-_, _*_, _≤_}
+use Prim.Native.Nat.{ℕ, _+_, _-_, _*_, _≤_, _<_}
 use mathlib.Core.Path.{_≡_, ap}
-use mathlib.Core.Bool.{false}
+use mathlib.Core.Bool.{true, false}
+use mathlib.Core.List.{List}
 use native.Mathlib.Omega.{arith}
 use borrow.Author.Tests.{leb-true}
 use lib.Dec.{leb}
-use lib.ListN.{length, getD, drop}
-use Rattle.ascii.specs.Class.{isDigit}
+use lib.ListN.{length, getD, take, drop}
+use lib.Seq.{getD-take, length-take-le}
+use Rattle.ascii.specs.Class.{isDigit, all}
 use Rattle.ascii.proofs.Class.{all-at}
 use Rattle.figures.specs.Total.{total}
 use Rattle.figures.specs.Figures.{adds}
 use Rattle.figures.proofs.Steps.{step, end, within-table}
 use Rattle.figures.proofs.total.weighted.Statement.{statement}
 use Rattle.figures.proofs.total.weighted.Tie as tie
+
+-- a weight that is used
+light : (ws : List ℕ) (n k : ℕ) → n ≤ length ws → all (λ w. leb w 10000000) (take n ws) ≡ true → k < n → getD ws k 0 ≤ 10000000
+light ws n k l h q = leb-true _ _ (rw (getD-take n ws k 0 q) at (all-at (λ w. leb w 10000000) (take n ws) k h (omega (arith, length-take-le n ws l))))
 
 abbrev Inv-loop : tie.InvT-loop
 Inv-loop s weights n sum₀ i₀ sum i =
@@ -43,7 +49,7 @@ part-requires : tie.Need-part-requires Inv-loop μ-loop
 part-requires c κs =
     let a = c .before .before .before .before .before .before in
     let i = c .before .before .before .loop .i in (
-      leb-true _ _ (all-at (λ w. leb w 10000000) (a .args .weights .now) (length (a .args .s .now) - 1 - i) (a .pre .1 .1 .1) (omega arith)),
+      light (a .args .weights .now) (length (a .args .s .now)) (length (a .args .s .now) - 1 - i) (a .pre .1 .1 .0) (a .pre .1 .1 .1) (omega arith),
       all-at isDigit (a .args .s .now) i (a .pre .0) (omega arith),
     )
 
@@ -52,7 +58,7 @@ small : (c : tie.After-part Inv-loop μ-loop) → c .part .result ≤ 90000000
 small c =
     let a = c .before .before .before .before .before .before .before in
     let k = length (a .args .s .now) - 1 - c .before .before .before .before .loop .i in
-    omega (arith, leb-true (getD (a .args .weights .now) k 0) 10000000 (all-at (λ w. leb w 10000000) (a .args .weights .now) k (a .pre .1 .1 .1) (omega arith)))
+    omega (arith, light (a .args .weights .now) (length (a .args .s .now)) k (a .pre .1 .1 .0) (a .pre .1 .1 .1) (omega arith))
 
 add-sum : tie.Need-add-sum Inv-loop μ-loop
 add-sum c = omega (arith, small c)

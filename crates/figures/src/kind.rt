@@ -1,0 +1,183 @@
+// The check figures by which bodies are completed and numbers corrected: how a digit counts, and what a total says.
+ghost use mathlib.Core.Path.{_≡_};
+ghost use mathlib.Core.Bool.{true};
+ghost use Prim.Native.Nat.{_+_, _*_, _≤_};
+ghost use lib.ListN.{length};
+ghost use Rattle.ascii.specs.Class.{isDigit, all};
+ghost use Rattle.forms.specs.Form.{faultOf};
+ghost use Rattle.forms.specs.Table.{digits};
+ghost use Rattle.figures.specs.Total.{total};
+ghost use Rattle.figures.specs.Figures.{weightAt, counted, adds, totalBy, belgianPair};
+ghost use Rattle.figures.specs.Inner.{figureBy, totalPasses, lacking, summed, withZero};
+use forms::Fault;
+use forms::digits;
+use forms::is_fit;
+
+// 0088, 0192, 0208, 0007, 0151.
+pub enum Kind {
+    Mod10,
+    Mod11,
+    Mod97,
+    Luhn,
+    Mod89,
+}
+
+// The total of digits, or what is wrong with their form.
+pub enum Sum {
+    Of(u64),
+    Unfit(Fault),
+}
+
+// Weights from the right. Those of 0088 and of Luhn alternate.
+pub(crate) const LAST: u32 = 1;
+
+pub(crate) const GLN_BEFORE: u32 = 3;
+
+pub(crate) const LUHN_BEFORE: u32 = 2;
+
+pub const MOD10: [u32; 2] = [LAST, GLN_BEFORE];
+
+pub const MOD11: [u32; 9] = [1, 2, 3, 4, 5, 6, 7, 2, 3];
+
+// The powers of ten: the total is the number itself.
+pub const MOD97: [u32; 10] = [
+    1,
+    10,
+    100,
+    1000,
+    10000,
+    100000,
+    1000000,
+    10000000,
+    100000000,
+    1000000000,
+];
+
+pub const LUHN: [u32; 2] = [LAST, LUHN_BEFORE];
+
+pub const MOD89: [u32; 11] = [19, 17, 15, 13, 11, 9, 7, 5, 3, 1, 10];
+
+// The moduli.
+pub(crate) const TEN: u64 = 10;
+
+pub(crate) const ELEVEN: u64 = 11;
+
+pub(crate) const ABN_MODULUS: u64 = 89;
+
+// The weight of a digit with k digits to its right: the table's, over and over.
+pub fn weight(weights: &[u32], k: usize) -> u32
+    ensures { λ r. ⌜ r ≡ weightAt (now (weights .entry)) k ⌝ }
+{
+    let n = weights.len();
+    if k < n {
+        return weights[k];
+    }
+    if n == 2 {
+        let odd = k % 2;
+        return weights[odd];
+    }
+    if n == 0 {
+        return 0;
+    }
+    let round = k % n;
+    weights[round]
+}
+
+// Whether the digits of a product are added.
+fn folds(kind: Kind) -> bool
+    ensures { λ r. ⌜ r ≡ figureBy kind .fold ⌝ }
+{
+    match kind {
+        Kind::Mod10 => false,
+        Kind::Mod11 => false,
+        Kind::Mod97 => false,
+        Kind::Luhn => true,
+        Kind::Mod89 => false,
+    }
+}
+
+// What the digit d adds by its weight.
+pub fn share(kind: Kind, w: u32, d: u8) -> u64
+    ensures { λ r. ⌜ r ≡ counted (figureBy kind .fold) (w * d) ⌝ }
+{
+    let p = (w as u64) * (d as u64);
+    if folds(kind) {
+        return p / 10 + p % 10;
+    }
+    p
+}
+
+// The total of digits, with `after` zeros behind them.
+fn added(kind: Kind, weights: &[u32], s: &[u8], after: usize) -> u64
+    requires { ⌜ all isDigit (now s) ≡ true ⌝ ∗ ⌜ length (now s) ≤ 255 ⌝ ∗ ⌜ after ≤ 1 ⌝ }
+    ensures { λ r. ⌜ r ≡ total (λ j d. adds (figureBy kind .fold) (now (weights .entry)) (j + after) d) (now (s .entry)) ⌝ }
+{
+    let n = s.len();
+    let mut sum: u64 = 0;
+    let mut i = 0;
+    while i < n {
+        let k = n - 1 - i + after;
+        sum += share(kind, weight(weights, k), s[i] - 48);
+        i += 1;
+    }
+    sum
+}
+
+// By the table of a figure.
+fn added_by(kind: Kind, s: &[u8], after: usize) -> u64
+    requires { ⌜ all isDigit (now s) ≡ true ⌝ ∗ ⌜ length (now s) ≤ 255 ⌝ ∗ ⌜ after ≤ 1 ⌝ }
+    ensures { λ r. ⌜ r ≡ total (λ j d. adds (figureBy kind .fold) (figureBy kind .weights) (j + after) d) (now (s .entry)) ⌝ }
+{
+    match kind {
+        Kind::Mod10 => added(kind, &MOD10, s, after),
+        Kind::Mod11 => added(kind, &MOD11, s, after),
+        Kind::Mod97 => added(kind, &MOD97, s, after),
+        Kind::Luhn => added(kind, &LUHN, s, after),
+        Kind::Mod89 => added(kind, &MOD89, s, after),
+    }
+}
+
+// The total of least to most digits; where a check digit is still to come, with a 0 for it.
+pub fn sum_of(kind: Kind, s: &[u8], least: u8, most: u8, pending: bool) -> Sum
+    ensures { λ r. ⌜ r ≡ summed (faultOf (digits least most) (now (s .entry))) (totalBy (figureBy kind) (withZero pending (now (s .entry)))) ⌝ }
+{
+    let fault = digits(s, least as usize, most as usize);
+    if is_fit(fault) {
+        let after = pending as usize;
+        return Sum::Of(added_by(kind, s, after));
+    }
+    Sum::Unfit(fault)
+}
+
+// The pair of 0208: 97 less what the first eight digits leave by 97.
+pub(crate) fn belgian_pair(n: u64) -> u64
+    ensures { λ r. ⌜ r ≡ belgianPair n ⌝ }
+{
+    97 - n % 97
+}
+
+// Whether a number of the right form is accepted, by its total.
+pub fn passes(kind: Kind, total: u64) -> bool
+    ensures { λ r. ⌜ r ≡ totalPasses kind total ⌝ }
+{
+    match kind {
+        Kind::Mod10 => total % TEN == 0,
+        Kind::Mod11 => (total != 0) & (total % ELEVEN == 0),
+        Kind::Mod97 => total % 100 == belgian_pair(total / 100),
+        Kind::Luhn => total % TEN == 0,
+        Kind::Mod89 => total % ABN_MODULUS == 10,
+    }
+}
+
+// The check figure that a body's total lacks; 10 where a body of 0192 has none.
+pub fn lacking(kind: Kind, total: u64) -> u64
+    ensures { λ r. ⌜ r ≡ lacking kind total ⌝ }
+{
+    match kind {
+        Kind::Mod10 => (TEN - total % TEN) % TEN,
+        Kind::Mod11 => (ELEVEN - total % ELEVEN) % ELEVEN,
+        Kind::Mod97 => belgian_pair(total),
+        Kind::Luhn => (TEN - total % TEN) % TEN,
+        Kind::Mod89 => 99 - total % ABN_MODULUS,
+    }
+}
