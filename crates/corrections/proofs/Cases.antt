@@ -21,7 +21,8 @@ use Rattle.corrections.specs.Outcome.{Outcome, refusedWith, success, unl
 use Rattle.corrections.specs.Completing.{completedBy, completing}
 use Rattle.ascii.specs.Area.{joined}
 use Rattle.corrections.specs.Corrections.{each, only, ifAccepted, fixesAt, replacements, exchanges, corrections}
-use Rattle.corrections.specs.Listing.{foundIn, entriesOf, listedFor, listing}
+use Rattle.checks.specs.Reading.{foundIn}
+use Rattle.corrections.specs.Listing.{entriesOf, listedFor, listing}
 
 -- a scheme, a body or a content, the bytes of the area, and what comes of it
 pub data Case : Type 0 where

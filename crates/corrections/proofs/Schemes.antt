@@ -10,8 +10,8 @@ use lib.ListN.{length, getD}
 use Rattle.ascii.proofs.Tests.{false-true, and-true, not-true}
 use Rattle.rules.specs.declared.rule.Scheme.{Scheme}
 use Rattle.rules.specs.declared.rule.Scheme.the-variants.{Four, NoScheme}
-use Rattle.rules.specs.Facts.{bytesOf}
-use Rattle.rules.specs.Choice.{sameBytes}
+use Rattle.rules.specs.Facts.{schemeBytes}
+use Rattle.ascii.specs.Written.{sameBytes}
 
 pub same-means : (s t : List ℕ) → sameBytes s t ≡ true → s ≡ t
 same-means [] [] e = refl
@@ -44,14 +44,14 @@ none-at [] = refl
 none-at (a ∷ s) = ne-eqb (length (a ∷ s)) 0 (λ q. omega arith)
 
 module _ (x y : Scheme) (s : List ℕ) (e : x ≡ y) where
-  pub by-none : x ≡ NoScheme → eqb (length s) 0 ≡ sameBytes s (bytesOf y)
-  by-none h = none-at s ∙ ap (λ z. sameBytes s (bytesOf z)) (sym h ∙ e)
+  pub by-none : x ≡ NoScheme → eqb (length s) 0 ≡ sameBytes s (schemeBytes y)
+  by-none h = none-at s ∙ ap (λ z. sameBytes s (schemeBytes z)) (sym h ∙ e)
 
-  pub by-other : (a b c d : ℕ) → x ≡ Four a b c d → (length s ≡ 4 → ⊥) → false ≡ sameBytes s (bytesOf y)
+  pub by-other : (a b c d : ℕ) → x ≡ Four a b c d → (length s ≡ 4 → ⊥) → false ≡ sameBytes s (schemeBytes y)
   by-other a b c d h n =
       sym (not-true (sameBytes s (a ∷ b ∷ c ∷ d ∷ [])) (λ t. n (ap length (same-means s (a ∷ b ∷ c ∷ d ∷ []) t))))
-      ∙ ap (λ z. sameBytes s (bytesOf z)) (sym h ∙ e)
+      ∙ ap (λ z. sameBytes s (schemeBytes z)) (sym h ∙ e)
 
   pub by-four : (a b c d : ℕ) → x ≡ Four a b c d → length s ≡ 4
-      → ((eqb (getD s 0 0) a && eqb (getD s 1 0) b) && eqb (getD s 2 0) c) && eqb (getD s 3 0) d ≡ sameBytes s (bytesOf y)
-  by-four a b c d h n = four-at s a b c d n ∙ ap (λ z. sameBytes s (bytesOf z)) (sym h ∙ e)
+      → ((eqb (getD s 0 0) a && eqb (getD s 1 0) b) && eqb (getD s 2 0) c) && eqb (getD s 3 0) d ≡ sameBytes s (schemeBytes y)
+  by-four a b c d h n = four-at s a b c d n ∙ ap (λ z. sameBytes s (schemeBytes z)) (sym h ∙ e)

@@ -10,7 +10,7 @@ use Rattle.figures.specs.declared.kind.Kind.{Kind}
 use Rattle.figures.specs.declared.kind.Kind.the-variants.{Mod10, Mod11, Mod97, Luhn, Mod89}
 use Rattle.rules.specs.declared.rule.Rule.{Rule}
 use Rattle.rules.specs.declared.rule.Rule.the-variants.{R40, R41, R43, R49, R50}
-use Rattle.rules.specs.Facts.{facts, bytesOf}
+use Rattle.rules.specs.Facts.{facts, schemeBytes}
 use Rattle.corrections.specs.declared.five.Row.{Row}
 use Rattle.corrections.specs.declared.five.Five.{Five}
 use Rattle.corrections.specs.declared.five.Five.the-variants.{Gln, Norway, Belgium, Sweden, Australia}
@@ -51,7 +51,7 @@ bodyForm k = digits (row k .shortest) (row k .longest)
 
 -- the scheme that its rule goes by: 0088, 0192, 0208, 0007, 0151
 abbrev pub schemeOf : Five → List ℕ
-schemeOf k = bytesOf (facts (ruleOf k) .scheme)
+schemeOf k = schemeBytes (facts (ruleOf k) .scheme)
 
 -- the one of a list that goes by a scheme
 abbrev pub knownIn : List ℕ → List Five → Known

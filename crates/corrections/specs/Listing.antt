@@ -2,14 +2,11 @@
 use mathlib.Core.List.{List}
 use Prim.Native.Nat.{ℕ, _-_, _*_}
 use lib.ListN.{length}
-use Rattle.ascii.specs.Pick.{pick}
 use Rattle.ascii.specs.Area.{joined}
 use Rattle.answer.specs.declared.reason.Reason.the-variants.{Good as GoodReason}
-use Rattle.answer.specs.Answers.{none}
 use Rattle.forms.specs.Form.{faultOf}
-use Rattle.text.specs.declared.reading.Reading.{Reading}
 use Rattle.text.specs.declared.reading.Reading.the-variants.{Normalised}
-use Rattle.text.specs.Answer.{readableOf, textBy}
+use Rattle.text.specs.Answer.{textBy}
 use Rattle.figures.specs.declared.finding.Finding.{Finding}
 use Rattle.figures.specs.declared.finding.Finding.the-variants.{Good, Through, Zero, Wrong, Unfit, Unreadable}
 use Rattle.figures.specs.Findings.{judged, reasonOf}
@@ -17,11 +14,8 @@ use Rattle.rules.specs.Finding.{accepts}
 use Rattle.corrections.specs.declared.five.Five.{Five}
 use Rattle.corrections.specs.Five.{ruleOf, numberForm, fiveOf}
 use Rattle.corrections.specs.Outcome.{Outcome, refusedWith, success, unless, forFive, roomReason}
+use Rattle.checks.specs.Reading.{foundIn}
 use Rattle.corrections.specs.Corrections.{corrections}
-
--- MOVES
-unfoldable pub foundIn : Reading → (List ℕ → Finding) → List ℕ → Finding
-foundIn how judge content = pick (none (readableOf content)) (judge (textBy how content)) (Unreadable (readableOf content))
 
 -- a number to list: its form, and then whether its rule accepts it
 abbrev pub numberFound : Five → List ℕ → Finding
