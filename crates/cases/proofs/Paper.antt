@@ -10,25 +10,26 @@ use Rattle.ascii.specs.Written.{bytes}
 use Rattle.answer.specs.declared.record.Answer.{Answer}
 use Rattle.answer.specs.declared.reason.Reason.the-variants.{Form, Check, Zero, NoFigure}
 use Rattle.answer.specs.declared.severity.Severity.the-variants.{NoSeverity, Fatal, Warning}
-use Rattle.answer.specs.Answers.{accepted, refused, none, first, judged}
+use Rattle.answer.specs.Answers.{accepted, refused, none, first}
 use Rattle.text.specs.Utf8.{two, three, four, stepOf}
 use Rattle.text.specs.White.{whitePoints, isWhite}
 use Rattle.text.specs.Content.{contentFrom, contentOf, cells, cellsOf}
 use Rattle.text.specs.Words.{parts, words, spaced, closed, normal, stripped}
-use Rattle.text.specs.Answer.{readableOf, padded, kept as keptText, refusal as refusedText, answer, normalText, strippedText}
+use Rattle.text.specs.Answer.{readableOf, padded, kept, refusal, answer, normalText, strippedText}
 use Rattle.forms.specs.Form.{ofClass, wrong, faultOf, fits}
 use Rattle.figures.specs.Rules.{gln, mod11, mod97, partitaIva, seOrgnr, abn}
 use Rattle.rules.specs.Choice.{byScheme, atTerm, ruleFor}
-use Rattle.rules.specs.Finding.{accepts, isItalian, isDutch, letsThrough}
-use Rattle.rules.specs.Check.{textFor, answerTo, answerBy, checkOf}
-use Rattle.accounts.specs.Spelled.{letterValue, valueOf, written, spell, decimal}
-use Rattle.accounts.specs.Rules.{number, remainder, ibanReason, ofStripped, ibanAnswer}
+use Rattle.rules.specs.Finding.{accepts, isItalian, isDutch}
+use Rattle.accounts.specs.Spelled.{letterValue, valueOf, written, spell, spelled, remainder}
+use Rattle.accounts.specs.Rules.{ibanFinding}
+use Rattle.checks.specs.Reading.{foundIn}
+use Rattle.checks.specs.Check.{findingBy, answerBy, checkOf, ibanAnswer}
+use Rattle.ascii.specs.Area.{joined}
 use Rattle.corrections.specs.Five.{fiveOf}
-use Rattle.corrections.specs.Outcome.{Outcome, refusal, success, unless, formReason, roomReason}
-use Rattle.corrections.specs.Completing.{completedBody, completedBy, completing}
-use Rattle.corrections.specs.Entries.{each, only, joined}
-use Rattle.corrections.specs.Corrections.{kept, fixesAt, replacements, exchanges, corrections}
-use Rattle.corrections.specs.Listing.{goodReason, listedNumber, listedText, listedBy, listing}
+use Rattle.corrections.specs.Outcome.{Outcome, refusedWith, success, unless, formReason, roomReason}
+use Rattle.corrections.specs.Completing.{completedBy, completing}
+use Rattle.corrections.specs.Corrections.{each, only, ifAccepted, fixesAt, replacements, exchanges, corrections}
+use Rattle.corrections.specs.Listing.{entriesOf, listedFor, listing}
 
 -- what a definition answers: a check, or a completion or listing
 pub data Said : Type 0 where
@@ -61,7 +62,7 @@ table =
     ∷ field "0088" "1234567890128" (accepted 40 Fatal)
     ∷ field "0192" "123456785" (accepted 41 Fatal)
     ∷ field "0192" "000000000" (refused 41 Fatal Zero)
-    ∷ completes "0192" "00000006" (refusal NoFigure)
+    ∷ completes "0192" "00000006" (refusedWith NoFigure)
     ∷ field "0208" "0000009797" (accepted 43 Fatal)
     ∷ field "0208" "0000009700" (refused 43 Fatal Check)
     ∷ field "0151" "51824753556" (accepted 50 Fatal)
@@ -73,5 +74,5 @@ table =
     ∷ []
 
 pub paper : map found table ≡ map told table
-unfolding pick within isDigit isLetter isPlain all among none first judged two three four stepOf whitePoints isWhite contentFrom contentOf cells cellsOf parts words spaced closed normal stripped readableOf padded keptText refusedText answer normalText strippedText ofClass wrong faultOf fits gln mod11 mod97 partitaIva seOrgnr abn byScheme atTerm ruleFor accepts isItalian isDutch letsThrough textFor answerTo answerBy checkOf letterValue valueOf written spell decimal number remainder ibanReason ofStripped fiveOf unless formReason roomReason completedBody completedBy completing each only joined kept fixesAt replacements exchanges corrections goodReason listedNumber listedText listedBy listing
+unfolding pick within isDigit isLetter isPlain all among none first two three four stepOf whitePoints isWhite contentFrom contentOf cells cellsOf parts words spaced closed normal stripped readableOf padded kept refusal answer normalText strippedText ofClass wrong faultOf fits gln mod11 mod97 partitaIva seOrgnr abn byScheme atTerm ruleFor accepts isItalian isDutch foundIn findingBy answerBy checkOf ibanAnswer letterValue valueOf written spell spelled remainder ibanFinding fiveOf unless formReason roomReason completedBy completing each only joined ifAccepted fixesAt replacements exchanges corrections entriesOf listedFor listing
 paper = refl
