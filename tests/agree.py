@@ -27,7 +27,7 @@ CRATES = ROOT / "crates"
 HEADER = ROOT / "include/partyid.h"
 BUILT = ROOT / "target/c"
 RUST = ROOT / "bindings/rust/src"
-PYTHON = ROOT / "bindings/python/partyid.py"
+PYTHON = ROOT / "bindings/python"
 
 
 def told(compared: Callable[[], list[str]]) -> list[str]:
