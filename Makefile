@@ -73,3 +73,5 @@ test:
 
 clean:
 	rm -rf $(OUT)
+
+include bindings/python/python.mk
