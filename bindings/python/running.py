@@ -35,7 +35,9 @@ def within(*words: Word, given: bytes = b"") -> Run:
 
 
 def environment(**more: str) -> dict[str, str]:
-    return {**os.environ, "PYTHONDONTWRITEBYTECODE": "1", **more}
+    """This one, but that output is buffered as it is for users."""
+    kept = {name: value for name, value in os.environ.items() if name != "PYTHONUNBUFFERED"}
+    return {**kept, "PYTHONDONTWRITEBYTECODE": "1", **more}
 
 
 def program(*words: Word, given: bytes = b"", **more: str) -> Run:

@@ -73,6 +73,7 @@ class Commands(unittest.TestCase):
             ("no number that the rule accepts is one slip away", "0192", "000000000"),
             ("no corrections: they are listed of 9 digits only", "0192", "12345678"),
             ("no corrections: they are listed of 1 to 20 digits only", "0088", "1" * 21),
+            ("no corrections: they are listed of 1 to 20 digits only", "0088", "1" * 1024),
             ("no corrections: the content is over 1,024 bytes", "0088", "1" * 1025),
             ("corrections are listed for 0088, 0192, 0208, 0007, 0151 only", "0184", "1"),
         ):
@@ -133,8 +134,9 @@ class Statuses(unittest.TestCase):
 
     def test_a_full_device(self) -> None:
         for command in ("check 0088 17", "--help", "lines ../../examples/lines.txt --corrections"):
-            said = shell(f"{sys.executable} -m partyid {command} >/dev/full")
-            self.assertEqual(said, Run(2, "", "partyid: [Errno 28] No space left on device\n"), command)
+            for unbuffered in ("", "-u"):
+                said = shell(f"{sys.executable} {unbuffered} -m partyid {command} >/dev/full")
+                self.assertEqual(said, Run(2, "", "partyid: [Errno 28] No space left on device\n"), command)
 
     def test_closed_ends(self) -> None:
         run = f"{sys.executable} -m partyid"

@@ -177,6 +177,12 @@ class Values(unittest.TestCase):
             with self.assertRaisesRegex(partyid.Refusal, "no check figure completes the body"):
                 pool.submit(refusing).result(timeout=20)
 
+    def test_other_errors_come_back_too(self) -> None:
+        for error in (partyid.Disagreement("4 is strange"), partyid.LibraryError("no library")):
+            back = pickle.loads(pickle.dumps(error))
+            self.assertEqual((type(back), str(back)), (type(error), str(error)))
+            self.assertLess(len(str(back)), 200)
+
     def test_answers_and_codes_come_back_too(self) -> None:
         for value in (partyid.check("0088", 34, "71"), partyid.withdrawn("9901"), partyid.decode("1", 0), Reason.TERM):
             back = pickle.loads(pickle.dumps(value))

@@ -5,6 +5,7 @@ from __future__ import annotations
 import os
 import tempfile
 import unittest
+from unittest import mock
 
 from running import program, shell, within  # first: it keeps Python from writing beside the sources
 
@@ -12,7 +13,6 @@ import partyid
 from partyid import lines
 from partyid.explain import shown
 from partyid.shape import HEADER, SHAPES
-from unittest import mock
 
 GOOD = ["0184 34 12345678", "0192 34 123456785", "0088 34 17"]
 
@@ -81,6 +81,10 @@ A number that a rule accepts need not be any party's: look it up before you take
             said = within("lines", "--corrections", given=f"{scheme} 34 {content}\n".encode())
             self.assertIn(f"accepted by the rule ({len(found)}): {' '.join(found)}\n", said.out)
 
+    def test_the_whole_content_is_asked_about(self) -> None:
+        said = within("lines", "--corrections", given=b"0088 34 " + b"1" * 1024)
+        self.assertIn("no corrections: they are listed of 1 to 20 digits only\n", said.out)
+
     def test_line_numbers_go_on_from_block_to_block(self) -> None:
         text = b"0088 34 17\n" * 99 + b"0088 34 71\n"
         with mock.patch.object(lines, "BLOCK", 64):
@@ -104,7 +108,7 @@ def without(shape: str) -> str:
 
 
 FILES = {
-    "the file is UTF-16": (["\ufeff" + "\n".join(GOOD)], "utf-16-le"),
+    "the file is UTF-16": (["\ufeff" + "\n".join(GOOD)], "utf-16-be"),
     "the file begins with a byte order mark": (["\ufeff" + "\n".join(GOOD)], "utf-8"),
     "lines end in CRLF": (["\r\n".join(GOOD)], "utf-8"),
     "fields are parted by commas or semicolons (CSV)": ([without(","), without(";"), "\n".join('"{}","{}","{}"'.format(*line.split(" ")) for line in GOOD)], "utf-8"),
@@ -137,6 +141,12 @@ class Shapes(unittest.TestCase):
                     righted = shell(command, folder)
                     self.assertEqual((righted.out.splitlines(), righted.err), (GOOD, ""), command)
 
+    def test_utf_16_is_seen_either_way_round_and_without_its_mark(self) -> None:
+        for encoding in ("utf-16-le", "utf-16-be"):
+            for mark in ("", "\ufeff"):
+                told = self.told((mark + "\n".join(GOOD) + "\n").encode(encoding))
+                self.assertRegex(told[0], "^the file is UTF-16: for that [34] of [34] refused lines")
+
     def test_shapes_together_are_each_named(self) -> None:
         exported = ("\ufeffscheme\tterm\tnumber\r\n" + "\r\n".join(line.replace(" ", "\t") for line in GOOD) + "\r\n").encode("utf-16-le")
         self.assertEqual([line.split(": for that")[0] for line in self.told(exported)], ["the file is UTF-16", "lines end in CRLF", "fields are parted by tabs", "line 1 looks like a table's header"])
@@ -150,6 +160,13 @@ class Shapes(unittest.TestCase):
     def test_no_shape_is_blamed_that_is_not_why(self) -> None:
         for data in (b"0088 34 71\r\n", b"0088 34 7\t1\n", b"0088 34 1,2,3\n", b"0088 34 \xef\xbb\xbf17\n", b"0088 34 1\x007\n", b"frob\n0088 34 17\n"[5:], b"0192,34,1\n0,0\n"[10:]):
             self.assertEqual(self.told(data), [], data)
+
+    def test_only_the_beginning_of_the_file_has_a_mark_or_a_header(self) -> None:
+        for line in ("\ufeff0088 34 17", "scheme term content"):
+            data = ("\n".join([*GOOD, line, *GOOD]) + "\n").encode()
+            for block in (1, 64, 1000):
+                with mock.patch.object(lines, "BLOCK", block):
+                    self.assertEqual(self.told(data), [], (line, block))
 
     def test_a_head_that_is_put_right_counts_although_the_number_is_wrong(self) -> None:
         self.assertEqual(len(self.told(b"0088\t34\t71\n")), 1)

@@ -84,20 +84,26 @@ def _run(words: Sequence[str]) -> int:
     return NAMED[given.command].run(given)
 
 
+def _silence(descriptor: int) -> None:
+    """What can't be written there is not tried again when Python ends, which would then leave a status of its own."""
+    os.dup2(os.open(os.devnull, os.O_WRONLY), descriptor)
+
+
 def _complain(what: str) -> None:
-    if sys.stderr is not None:
-        try:
-            print(f"partyid: {what}", file=sys.stderr, flush=True)
-        except OSError:
-            pass
+    if sys.stderr is None:
+        return
+    try:
+        print(f"partyid: {what}", file=sys.stderr, flush=True)
+    except OSError:
+        _silence(2)
 
 
-def _drop_output() -> None:
-    """What can't be written any more is not tried again when Python ends."""
+def _write_out() -> None:
+    """What was written before a failure, if it can be."""
     try:
         sys.stdout.flush()
     except (OSError, AttributeError, KeyboardInterrupt):
-        os.dup2(os.open(os.devnull, os.O_WRONLY), 1)
+        _silence(1)
 
 
 def main(words: Optional[Sequence[str]] = None) -> int:
@@ -114,5 +120,5 @@ def main(words: Optional[Sequence[str]] = None) -> int:
         _complain(str(error))
     except Exception as error:  # a status of Python's own would say that a number is refused
         _complain(f"{type(error).__name__}: {error}; that should not happen, please report it with the command")
-    _drop_output()
+    _write_out()
     return FAILED

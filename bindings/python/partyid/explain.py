@@ -17,7 +17,9 @@ _NO_RULE = answer_of(0, 0, 0, 0)
 def shown(line: bytes) -> str:
     """A line for the screen, its beginning if it is long. What is not printable ASCII is shown by its number, as <U+00A0> or <byte FF>."""
     text = line[: 4 * _SHOWN].decode("utf-8", "surrogateescape")
-    return "".join(map(_visible, text[:_SHOWN])) + (" .." if len(text) > _SHOWN else "")
+    start = text[:_SHOWN]
+    plain = start.isascii() and start.isprintable()
+    return (start if plain else "".join(map(_visible, start))) + (" .." if len(text) > _SHOWN else "")
 
 
 def _visible(character: str) -> str:

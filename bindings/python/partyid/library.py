@@ -76,8 +76,8 @@ class LibraryError(OSError):
 class Disagreement(ValueError):
     """libpartyid answered a number that its header does not have: it is not the library that this package was made for."""
 
-    def __init__(self, what: str) -> None:
-        super().__init__(f"{what}: this package and libpartyid are not of one version; build both from one source, or see what PARTYID_LIBRARY names")
+    def __str__(self) -> str:
+        return f"{super().__str__()}: this package and libpartyid are not of one version; build both from one source, or see what PARTYID_LIBRARY names"
 
 
 def library_path(here: pathlib.Path) -> str:
