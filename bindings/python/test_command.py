@@ -92,7 +92,11 @@ class Commands(unittest.TestCase):
             said = within(*words)
             self.assertEqual((said.status, said.out), (2, ""), words)
             self.assertRegex(said.err, "^partyid: .*\n$")
-        self.assertIn("begins with - stands behind --; partyid check --help says more", within("check", "0088", "-x").err)
+
+    def test_what_to_do_is_said(self) -> None:
+        self.assertIn("partyid check --help says more; as an argument -x stands behind --\n", within("check", "0088", "-x").err)
+        self.assertEqual(within("check", "0088").err, "partyid: the following arguments are required: CONTENT; partyid check --help says more\n")
+        self.assertIn("'frob'", within("--", "frob").err)
 
     def test_the_version(self) -> None:
         self.assertEqual(within("--version"), Run(0, f"partyid {partyid.__version__}\n", ""))

@@ -70,7 +70,7 @@ line 8: 0184 34 <U+00A0>1<byte FF>
     refused by rule 42 (severity fatal): the content is not well-formed UTF-8
     rule 42 (Danish CVR number) asks for 8 digits, or DK and 8 digits, with no space around them
     corrections are listed for 0088, 0192, 0208, 0007, 0151 only
-8 lines: 1 accepted, 4 refused, 2 without a rule, 1 let through unread
+lines: 8; accepted: 1; refused: 4; without a rule: 2; let through unread: 1
 A number that a rule accepts need not be any party's: look it up before you take it.
 """)
 
@@ -90,11 +90,11 @@ A number that a rule accepts need not be any party's: look it up before you take
         with mock.patch.object(lines, "BLOCK", 64):
             said = within("lines", "--corrections", given=text * 3)
         self.assertEqual([line for line in said.out.splitlines() if line.startswith("line ")], [f"line {n}: 0088 34 71" for n in (100, 200, 300)])
-        self.assertIn("300 lines: 297 accepted, 3 refused", said.out)
+        self.assertIn("lines: 300; accepted: 297; refused: 3;", said.out)
 
     def test_what_is_accepted_is_counted_alone(self) -> None:
         said = within("lines", "--corrections", given="\n".join(GOOD).encode())
-        self.assertEqual((said.status, said.out), (0, "3 lines: 3 accepted, 0 refused, 0 without a rule, 0 let through unread\n"))
+        self.assertEqual((said.status, said.out), (0, "lines: 3; accepted: 3; refused: 0; without a rule: 0; let through unread: 0\n"))
 
     def test_no_byte_reaches_the_screen_that_could_steer_it(self) -> None:
         self.assertEqual(shown(b"a\x1b[31m\t\x7f"), "a<U+001B>[31m<U+0009><U+007F>")
@@ -121,14 +121,14 @@ class Shapes(unittest.TestCase):
     def told(self, data: bytes) -> list[str]:
         """What the file's shape is said to be; a command to put it right stands behind each."""
         out = within("lines", "--corrections", given=data).out
-        return [line for line in out.splitlines() if " refused lines are refused; " in line]
+        return [line for line in out.splitlines() if "; refused for it: " in line]
 
     def test_each_shape_is_named_where_it_is_why(self) -> None:
         self.assertEqual(set(FILES), {shape.what for shape in (*SHAPES, HEADER)})
         for what, (texts, encoding) in FILES.items():
             for text in texts:
                 told = self.told((text + ("\r\n" if what.endswith("CRLF") else "\n")).encode(encoding))
-                self.assertEqual([line.split(": for that")[0] for line in told], [what], text)
+                self.assertEqual([line.split("; refused for it")[0] for line in told], [what], text)
 
     def test_what_to_do_puts_it_right(self) -> None:
         with tempfile.TemporaryDirectory() as folder:
@@ -137,7 +137,7 @@ class Shapes(unittest.TestCase):
                     data = (text + ("\r\n" if what.endswith("CRLF") else "\n")).encode(encoding)
                     with open(os.path.join(folder, "FILE"), "wb") as file:
                         file.write(data)
-                    command = self.told(data)[0].partition("refused lines are refused; ")[2].partition(": ")[2]
+                    command = self.told(data)[0].partition("; refused for it: ")[2].partition(": ")[2]
                     righted = shell(command, folder)
                     self.assertEqual((righted.out.splitlines(), righted.err), (GOOD, ""), command)
 
@@ -145,17 +145,17 @@ class Shapes(unittest.TestCase):
         for encoding in ("utf-16-le", "utf-16-be"):
             for mark in ("", "\ufeff"):
                 told = self.told((mark + "\n".join(GOOD) + "\n").encode(encoding))
-                self.assertRegex(told[0], "^the file is UTF-16: for that [34] of [34] refused lines")
+                self.assertRegex(told[0], "^the file is UTF-16; refused for it: [34] of [34];")
 
     def test_shapes_together_are_each_named(self) -> None:
         exported = ("\ufeffscheme\tterm\tnumber\r\n" + "\r\n".join(line.replace(" ", "\t") for line in GOOD) + "\r\n").encode("utf-16-le")
-        self.assertEqual([line.split(": for that")[0] for line in self.told(exported)], ["the file is UTF-16", "lines end in CRLF", "fields are parted by tabs", "line 1 looks like a table's header"])
+        self.assertEqual([line.split("; refused for it")[0] for line in self.told(exported)], ["the file is UTF-16", "lines end in CRLF", "fields are parted by tabs", "line 1 looks like a table's header"])
         exported = ("\ufeff" + "\r\n".join(line.replace(" ", ";") for line in GOOD) + "\r\n").encode()
         self.assertEqual(len(self.told(exported)), 3)
 
     def test_the_lines_that_it_is_why_for_are_counted(self) -> None:
         told = self.told(b"0184 34 12345678\r\n0088 34 71\r\n0088 34 17\r\n0096 34 1234567890\r\n")
-        self.assertEqual(told, ["lines end in CRLF: for that 2 of 3 refused lines are refused; take out the carriage returns: tr -d '\\r' <FILE"])
+        self.assertEqual(told, ["lines end in CRLF; refused for it: 2 of 3; take out the carriage returns: tr -d '\\r' <FILE"])
 
     def test_no_shape_is_blamed_that_is_not_why(self) -> None:
         for data in (b"0088 34 71\r\n", b"0088 34 7\t1\n", b"0088 34 1,2,3\n", b"0088 34 \xef\xbb\xbf17\n", b"0088 34 1\x007\n", b"frob\n0088 34 17\n"[5:], b"0192,34,1\n0,0\n"[10:]):

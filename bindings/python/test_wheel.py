@@ -2,6 +2,7 @@
 
 from __future__ import annotations
 
+import importlib.util
 import os
 import pathlib
 import re
@@ -64,6 +65,8 @@ class Wheel(unittest.TestCase):
             done(sys.executable, "-m", "venv", "--without-pip", environment_folder)
             pip: list[Union[str, pathlib.Path]] = [sys.executable, "-m", "pip", "--python", environment_folder / "bin/python"]
         else:
+            if not importlib.util.find_spec("ensurepip"):
+                self.skipTest("neither pip nor ensurepip is here")
             done(sys.executable, "-m", "venv", environment_folder)  # with the pip that Python brings
             pip = [environment_folder / "bin/python", "-m", "pip"]
         done(*pip, "install", "--no-index", "--no-deps", "--disable-pip-version-check", self.built())

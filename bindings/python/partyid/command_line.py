@@ -14,14 +14,12 @@ from .commands import ARGUMENTS, COMMANDS, DONE, FAILED, NAMED, OPTIONS, Command
 from .library import Disagreement
 from .manual import ABOUT, CAUTION, sentence, whole
 
-_BEHIND = "; an argument that begins with - stands behind --"
 _KEPT = "\0"  # begins a word behind --; no word of a command line can have it
 
 
 class _Parser(argparse.ArgumentParser):
     def error(self, message: str) -> NoReturn:
-        hint = _BEHIND if message.startswith(("unrecognized", "the following")) else ""
-        raise UsageError(f"{message}{hint}; {self.prog} --help says more")
+        raise UsageError(f"{message.replace(repr(_KEPT)[1:-1], '')}; {self.prog} --help says more")
 
     def print_help(self, file: Optional[IO[str]] = None) -> None:
         sys.stdout.write(self.format_help())  # argparse's own hides that it can't be written
@@ -68,6 +66,13 @@ def _kept(words: Sequence[str]) -> list[str]:
     return [*words[:end], *(_KEPT + word for word in words[end + 1 :])]
 
 
+def _hint(words: Sequence[str]) -> str:
+    """Where a word looks like an option and is none: how to have it taken as it is."""
+    known = {"-", "--", "-h", "--help", "--version", *OPTIONS}
+    strange = next((word for word in words if word.startswith("-") and word.split("=")[0] not in known), None)
+    return f"; as an argument {strange} stands behind --" if strange and "--" not in words else ""
+
+
 def _number(word: str) -> int:
     if not re.fullmatch("[0-9]{1,20}", word):
         raise argparse.ArgumentTypeError("takes a number of at most 20 digits")
@@ -81,6 +86,8 @@ def _run(words: Sequence[str]) -> int:
         given = parser().parse_args(_kept(words))
     except SystemExit:  # --help and --version have been written
         return DONE
+    except UsageError as error:
+        raise UsageError(f"{error}{_hint(words)}") from None
     return NAMED[given.command].run(given)
 
 

@@ -84,7 +84,7 @@ def _line_told(number: int, line: bytes, answer: Answer) -> str:
 
 def _whole_told(counts: dict[Verdict, int], shapes: Shapes) -> str:
     refused = counts[Verdict.REFUSED]
-    judged = f"{sum(counts.values())} lines: {counts[Verdict.ACCEPTED]} accepted, {refused} refused"
-    unjudged = f", {counts[Verdict.NO_RULE]} without a rule, {counts[Verdict.UNREAD]} let through unread"
+    judged = f"lines: {sum(counts.values())}; accepted: {counts[Verdict.ACCEPTED]}; refused: {refused}"
+    unjudged = f"; without a rule: {counts[Verdict.NO_RULE]}; let through unread: {counts[Verdict.UNREAD]}"
     caution = ["A number that a rule accepts need not be any party's: look it up before you take it."] if refused else []
     return "\n".join([judged + unjudged, *shapes.told(refused), *caution]) + "\n"

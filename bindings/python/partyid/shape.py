@@ -71,7 +71,7 @@ class Shapes:
 
     def told(self, refused: int) -> list[str]:
         """What to do about the file."""
-        return [f"{shape.what}: for that {self.found[shape]} of {refused} refused lines are refused; {shape.do}" for shape in (*SHAPES, HEADER) if self.found[shape]]
+        return [f"{shape.what}; refused for it: {self.found[shape]} of {refused}; {shape.do}" for shape in (*SHAPES, HEADER) if self.found[shape]]
 
 
 def _righted(line: bytes, number: int, left: Optional[Shape]) -> bytes:
