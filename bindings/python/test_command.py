@@ -87,11 +87,12 @@ class Commands(unittest.TestCase):
         self.assertIn("a term is one of 29, 30,", within("check", "0088", "17", "--term", "1", "--corrections").out)
 
     def test_what_is_not_understood_is_status_2(self) -> None:
-        for words in ((), ("frob",), ("check", "0088"), ("check", "0088", "17", "17"), ("check", "0088", "17", "--term"), ("iban", "AA750", "--term", "34"),
-                      ("check", "0088", "17", "--term", "x"), ("check", "0088", "--trem"), ("check", "0088", "17", "--corr"), ("lines", "no such file"), ("lines", "."), ("--", "-")):
+        for line in ("", "frob", "check 0088", "check 0088 17 17", "check 0088 17 --term", "iban AA750 --term 34", "check 0088 17 --term x", "check 0088 --trem",
+                     "check 0088 17 --corr", "lines nosuchfile", "lines .", "-- -", "check 0088 17 -- 17"):
+            words = line.split()
             said = within(*words)
             self.assertEqual((said.status, said.out), (2, ""), words)
-            self.assertRegex(said.err, "^partyid: .*\n$")
+            self.assertRegex(said.err, "^partyid: [ -~]*\n$")
 
     def test_what_to_do_is_said(self) -> None:
         self.assertIn("partyid check --help says more; as an argument -x stands behind --\n", within("check", "0088", "-x").err)
@@ -157,7 +158,8 @@ class Statuses(unittest.TestCase):
         self.assertEqual((said.out, said.err), (REFUSED, "2\n"))
 
     def test_an_interruption(self) -> None:
-        with subprocess.Popen([sys.executable, "-m", "partyid", "lines"], cwd=HERE, env=environment(), stdin=subprocess.PIPE, stdout=subprocess.PIPE, stderr=subprocess.PIPE) as running:
+        command, pipe = [sys.executable, "-m", "partyid", "lines"], subprocess.PIPE
+        with subprocess.Popen(command, cwd=HERE, env=environment(), stdin=pipe, stdout=pipe, stderr=pipe) as running:
             assert running.stdin and running.stdout
             running.stdin.write(b"0088 34 71\n")
             running.stdin.flush()

@@ -114,9 +114,11 @@ class Streams(unittest.TestCase):
     def test_what_is_no_lines_is_told_so(self) -> None:
         for text in ("0088 34 17\n", b"0088 34 17\n"):
             with self.assertRaisesRegex(TypeError, "answer_lines takes one text"):
-                next(partyid.check_lines(text))  # type: ignore[arg-type]
+                partyid.check_lines(text)  # type: ignore[arg-type]
         with self.assertRaisesRegex(ValueError, "1 or more"):
-            next(partyid.check_lines([], at_once=0))
+            partyid.check_lines([], at_once=0)
+        with self.assertRaisesRegex(TypeError, "^answer_numbers takes bytes, a str or a file opened for bytes, not int$"):
+            partyid.answer_numbers(17)  # type: ignore[arg-type]
 
     def test_lines_are_answered_before_the_pipe_is_closed(self) -> None:
         reading, writing = os.pipe()

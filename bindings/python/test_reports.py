@@ -149,7 +149,8 @@ class Shapes(unittest.TestCase):
 
     def test_shapes_together_are_each_named(self) -> None:
         exported = ("\ufeffscheme\tterm\tnumber\r\n" + "\r\n".join(line.replace(" ", "\t") for line in GOOD) + "\r\n").encode("utf-16-le")
-        self.assertEqual([line.split("; refused for it")[0] for line in self.told(exported)], ["the file is UTF-16", "lines end in CRLF", "fields are parted by tabs", "line 1 looks like a table's header"])
+        wanted = ["the file is UTF-16", "lines end in CRLF", "fields are parted by tabs", "line 1 looks like a table's header"]
+        self.assertEqual([line.split("; refused for it")[0] for line in self.told(exported)], wanted)
         exported = ("\ufeff" + "\r\n".join(line.replace(" ", ";") for line in GOOD) + "\r\n").encode()
         self.assertEqual(len(self.told(exported)), 3)
 
@@ -158,7 +159,7 @@ class Shapes(unittest.TestCase):
         self.assertEqual(told, ["lines end in CRLF; refused for it: 2 of 3; take out the carriage returns: tr -d '\\r' <FILE"])
 
     def test_no_shape_is_blamed_that_is_not_why(self) -> None:
-        for data in (b"0088 34 71\r\n", b"0088 34 7\t1\n", b"0088 34 1,2,3\n", b"0088 34 \xef\xbb\xbf17\n", b"0088 34 1\x007\n", b"frob\n0088 34 17\n"[5:], b"0192,34,1\n0,0\n"[10:]):
+        for data in (b"0088 34 71\r\n", b"0088 34 7\t1\n", b"0088 34 1,2,3\n", b"0088 34 \xef\xbb\xbf17\n", b"0088 34 1\x007\n", b"0,0\n", b"\r\n", b"\t\n"):
             self.assertEqual(self.told(data), [], data)
 
     def test_only_the_beginning_of_the_file_has_a_mark_or_a_header(self) -> None:

@@ -19,7 +19,8 @@ _KEPT = "\0"  # begins a word behind --; no word of a command line can have it
 
 class _Parser(argparse.ArgumentParser):
     def error(self, message: str) -> NoReturn:
-        raise UsageError(f"{message.replace(repr(_KEPT)[1:-1], '')}; {self.prog} --help says more")
+        plain = message.replace("\\x00", "").replace(_KEPT, "")
+        raise UsageError(f"{plain}; {self.prog} --help says more")
 
     def print_help(self, file: Optional[IO[str]] = None) -> None:
         sys.stdout.write(self.format_help())  # argparse's own hides that it can't be written

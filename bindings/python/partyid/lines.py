@@ -12,6 +12,7 @@ from .library import ANSWER_NUMBERS, NUMBERS, Content, Disagreement, answer_of, 
 
 BLOCK = 1 << 20
 _LINES_AT_ONCE = 1024
+_TEXT = (bytes, bytearray, memoryview, str)
 
 
 class Line(NamedTuple):
@@ -43,11 +44,12 @@ def answer_lines(data: Content) -> Iterator[Answer]:
 def answer_numbers(source: Union[Content, Readable]) -> "array[int]":
     """The answers to the lines of a text, or of a file opened for bytes, as numbers alone: verdict, rule, severity and reason of the first line,
     then of the second. No object is made for a line. numbers[0::4] are the verdicts; numbers[0::4].count(Verdict.REFUSED) counts."""
-    read = getattr(source, "read", None)
-    if read is None:
-        return numbers_of(as_bytes(source))  # type: ignore[arg-type]
+    if isinstance(source, _TEXT):
+        return numbers_of(as_bytes(source))
+    if not hasattr(source, "read"):
+        raise TypeError(f"answer_numbers takes bytes, a str or a file opened for bytes, not {type(source).__name__}")
     numbers = array("I")
-    for block in blocks(source):  # type: ignore[arg-type]
+    for block in blocks(source):
         numbers.extend(numbers_of(block))
     return numbers
 
@@ -57,16 +59,9 @@ def check_lines(lines: Iterable[Content], at_once: int = _LINES_AT_ONCE) -> Iter
     opened for bytes they are the file's own. One newline at the end of a line is no part of it."""
     if at_once < 1:
         raise ValueError("at_once is the number of lines to take at once, 1 or more")
-    if isinstance(lines, (bytes, bytearray, memoryview, str)):
+    if isinstance(lines, _TEXT):
         raise TypeError("check_lines takes lines, as a file or a list has them; answer_lines takes one text")
-    rest = iter(lines)
-    number = 1
-    while True:
-        taken = [_without_newline(as_bytes(line)) for line in islice(rest, at_once)]
-        if not taken:
-            return
-        yield from map(Line, range(number, number + len(taken)), taken, _answers(taken))
-        number += len(taken)
+    return _checked(iter(lines), at_once)
 
 
 def blocks(file: Readable) -> Iterator[bytes]:
@@ -99,6 +94,16 @@ def lines_of(block: bytes) -> list[bytes]:
 def rows_of(numbers: "array[int]") -> Iterator[Answer]:
     four = [iter(numbers)] * ANSWER_NUMBERS
     return starmap(answer_of, zip(*four))
+
+
+def _checked(lines: Iterator[Content], at_once: int) -> Iterator[Line]:
+    number = 1
+    while True:
+        taken = [_without_newline(as_bytes(line)) for line in islice(lines, at_once)]
+        if not taken:
+            return
+        yield from map(Line, range(number, number + len(taken)), taken, _answers(taken))
+        number += len(taken)
 
 
 def _without_newline(line: bytes) -> bytes:
