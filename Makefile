@@ -121,3 +121,5 @@ test:
 
 clean:
 	rm -rf $(OUT)
+
+include bindings/python/python.mk

@@ -31,7 +31,7 @@ HEADER = ROOT / "include/partyid.h"
 BUILT = ROOT / "target/c"
 WORDS = ROOT / "c/words.c"
 RUST = ROOT / "bindings/rust/src"
-PYTHON = ROOT / "bindings/python/partyid.py"
+PYTHON = ROOT / "bindings/python"
 
 
 def told(compared: Callable[[], list[str]]) -> list[str]:

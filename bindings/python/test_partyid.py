@@ -1,33 +1,33 @@
-"""Tests of partyid.py: python3 -m unittest, in this folder, or python3 test_partyid.py.
+"""Tests of what the package answers: python3 -m unittest, in this folder, runs them and the others.
 
-What document 01 says of single calls stands in ../cases.txt."""
+What is said of single calls stands in ../cases.txt."""
 
 from __future__ import annotations
 
+import copy
+import ctypes
 import doctest
-import os
 import pathlib
+import pickle
 import re
-import subprocess
-import sys
-import tempfile
 import unittest
-from typing import Any, Callable, Iterable, Iterator, Sequence, Union
+from concurrent.futures import ProcessPoolExecutor
+from typing import Any, Callable, Iterable, Iterator, Union
+from unittest import mock
 
-sys.dont_write_bytecode = True  # no folder beside the sources
+from running import HERE, ROOT  # first: it keeps Python from writing beside the sources
+
 import partyid
-from partyid import Reason, Verdict
-
-HERE = pathlib.Path(__file__).resolve().parent
+from partyid import Reason, Verdict, library
 
 
 def load_tests(loader: unittest.TestLoader, tests: unittest.TestSuite, pattern: Any) -> unittest.TestSuite:
-    """The examples in the module's own text are tests too."""
+    """The examples in the package's own text are tests too."""
     tests.addTests(doctest.DocTestSuite(partyid))
     return tests
 
 
-# ---- The cases of document 01
+# ---- The cases
 
 Words = list[bytes]
 
@@ -63,7 +63,7 @@ def settled(work: Callable[[], Union[str, list[str]]]) -> Words:
     return [b"0", *(text.encode() for text in ([written] if isinstance(written, str) else written))]
 
 
-def point_words(point: partyid.Point | None) -> Words:
+def point_words(point: "partyid.Point | None") -> Words:
     return [b"%x" % point.code, b"%d" % point.len] if point else [b"0", b"0"]
 
 
@@ -89,7 +89,7 @@ CALLS: dict[str, Callable[..., Words]] = {
 
 
 class Cases(unittest.TestCase):
-    def test_every_case_has_the_answer_of_document_01(self) -> None:
+    def test_every_case_has_its_answer(self) -> None:
         for line, function, arguments, answer in cases():
             with self.subTest(line=line[:100]):
                 self.assertEqual(CALLS[function](*arguments), answer)
@@ -145,115 +145,128 @@ class Contents(unittest.TestCase):
             self.assertEqual(list(partyid.answer_lines(b"\n".join(lines) + b"\n")), alone, count)
 
     def test_the_line_programs_own_lines_have_its_answers(self) -> None:
-        program = HERE.parents[1] / "crates" / "checklines"
+        program = ROOT / "crates" / "checklines"
         written = [b"%d %d %d %d" % answer for answer in partyid.answer_lines((program / "stdin").read_bytes())]
         self.assertEqual(written, (program / "stdout").read_bytes().splitlines())
 
     def test_an_answer_is_told_in_words(self) -> None:
         refused = "refused by rule 40 (severity fatal): the form is met and the check figure is wrong"
         self.assertEqual(str(partyid.check("0088", 34, "71")), refused)
+        self.assertEqual(str(partyid.check("0088", 34, "17")), "accepted by rule 40")  # no severity: it would alarm
+        self.assertEqual(str(partyid.check("0211", 34, "")), "let through unread by rule 47")
         self.assertEqual(str(partyid.check("0060", 34, "x")), "no rule")
         self.assertEqual(str(partyid.withdrawn("9901")), "withdrawn, its successor is 0096")
         with self.assertRaisesRegex(partyid.Refusal, "no check figure completes the body"):
             partyid.complete("0192", "00000006")
 
 
-# ---- A library that does not keep its header
+# ---- Answers as values
 
 
-class Disagreement(unittest.TestCase):
+def refusing() -> str:
+    return partyid.complete("0192", "00000006")
+
+
+class Values(unittest.TestCase):
+    def test_a_refusal_comes_back_from_another_process(self) -> None:
+        with self.assertRaises(partyid.Refusal) as caught:
+            refusing()
+        for there_and_back in (pickle.loads(pickle.dumps(caught.exception)), copy.deepcopy(caught.exception)):
+            self.assertEqual((there_and_back.reason, str(there_and_back)), (Reason.NO_FIGURE, "no check figure completes the body"))
+        with ProcessPoolExecutor(1) as pool:
+            with self.assertRaisesRegex(partyid.Refusal, "no check figure completes the body"):
+                pool.submit(refusing).result(timeout=20)
+
+    def test_other_errors_come_back_too(self) -> None:
+        for error in (partyid.Disagreement("4 is strange"), partyid.LibraryError("no library")):
+            back = pickle.loads(pickle.dumps(error))
+            self.assertEqual((type(back), str(back)), (type(error), str(error)))
+            self.assertLess(len(str(back)), 200)
+
+    def test_answers_and_codes_come_back_too(self) -> None:
+        for value in (partyid.check("0088", 34, "71"), partyid.withdrawn("9901"), partyid.decode("1", 0), Reason.TERM):
+            back = pickle.loads(pickle.dumps(value))
+            self.assertEqual((back, type(back), str(back)), (value, type(value), str(value)))
+
+    def test_an_answer_is_true_where_it_is_accepted(self) -> None:
+        self.assertTrue(partyid.is_valid_iban_checksum("AA750"))
+        for answer in (partyid.is_valid_iban_checksum("NOT AN IBAN"), partyid.check("0060", 34, "x"), partyid.check("0211", 34, ""), partyid.check("0088", 1, "17")):
+            self.assertFalse(answer, answer)
+            self.assertFalse(answer.accepted, answer)
+        self.assertTrue(partyid.check("0088", 34, "71").refused)
+        self.assertFalse(partyid.check("0060", 34, "x").refused)
+
+    def test_a_code_is_true_where_it_is_withdrawn(self) -> None:
+        self.assertTrue(partyid.withdrawn("9901") and partyid.withdrawn("9905"))
+        self.assertFalse(partyid.withdrawn("0088"))
+
+    def test_a_number_is_written_in_words(self) -> None:
+        self.assertEqual((str(Reason.FORM), f"{Reason.FORM}", f"{Reason.FORM:d}"), ("the form is not met", "the form is not met", "3"))
+        self.assertEqual((f"{Verdict.REFUSED:>9}", f"{Verdict.REFUSED:02x}", "%d" % Verdict.REFUSED), ("  refused", "02", "2"))
+
+    def test_which_schemes_can_be_listed_is_said_where_it_is_refused(self) -> None:
+        said = "only 0088, 0192, 0208, 0007 and 0151 can be completed or listed"
+        with self.assertRaisesRegex(partyid.Refusal, said):
+            partyid.corrections("0184", "12345678")
+        with self.assertRaisesRegex(partyid.Refusal, said):
+            partyid.complete("0184", "1")
+
+    def test_what_is_no_number_is_told_so(self) -> None:
+        for term in ("34", 34.0, None, b"34"):
+            with self.assertRaisesRegex(TypeError, "^a term is given as a whole number"):
+                partyid.check("0088", term, "17")  # type: ignore[arg-type]
+        with self.assertRaisesRegex(TypeError, "^a code point is given as a whole number"):
+            partyid.is_white(" ")  # type: ignore[arg-type]
+        with self.assertRaisesRegex(TypeError, "^a place is given as a whole number"):
+            partyid.decode("1", "0")  # type: ignore[arg-type]
+        with self.assertRaisesRegex(TypeError, "^a scheme or a content is given as bytes or str, not as int"):
+            partyid.check(88, 34, "17")  # type: ignore[arg-type]
+
+    def test_what_counts_as_a_whole_number_is_one(self) -> None:
+        self.assertEqual(partyid.check("0088", ctypes.c_uint32(34).value, "17"), partyid.check("0088", Whole(), "17"))
+
+
+class Whole:
+    def __index__(self) -> int:
+        return 34
+
+
+# ---- The library
+
+
+class Library(unittest.TestCase):
+    def test_it_is_looked_for_near_the_root_too(self) -> None:
+        with mock.patch.dict("os.environ", {"PARTYID_LIBRARY": ""}):
+            for place in ("/library.py", "/a/library.py", "/a/b/library.py"):
+                self.assertIsInstance(library.library_path(pathlib.Path(place)), str)
+            self.assertEqual(library.library_path(HERE / "partyid" / "library.py"), str(ROOT / "target/c/libpartyid.so"))
+
     def test_a_number_that_the_header_does_not_have_is_named(self) -> None:
-        with self.assertRaisesRegex(ValueError, "^4 is not a valid .*Verdict"):
-            partyid._answer(partyid._Answer(4, 0, 0, 0))
+        with self.assertRaisesRegex(ValueError, "^4 is not a valid .*Verdict.*not of one version"):
+            library.answered(library.AnswerStruct(4, 0, 0, 0))
         with self.assertRaisesRegex(ValueError, "^3 is not a valid .*Severity"):
-            partyid._answer(partyid._Answer(0, 0, 3, 0))
-        with self.assertRaisesRegex(ValueError, "^12 is not a valid .*Reason"):
-            partyid._settle(12)
+            library.answered(library.AnswerStruct(0, 0, 3, 0))
+        with self.assertRaisesRegex(partyid.Disagreement, "^12 is not a valid .*Reason"):
+            library.settle(12)
 
 
-# ---- The command line
+# ---- The names
 
 
-def run(*arguments: Union[str, bytes], given: bytes = b"", **environment: str) -> tuple[int, str, str]:
-    """The exit status of a command, what it wrote and what it complained of."""
-    env = {**os.environ, "PYTHONDONTWRITEBYTECODE": "1", **environment}
-    command: Sequence[Union[str, bytes]] = [sys.executable, "-m", "partyid", *arguments]
-    done = subprocess.run(command, cwd=HERE, env=env, input=given, stdout=subprocess.PIPE, stderr=subprocess.PIPE, check=False)
-    return done.returncode, done.stdout.decode("ascii"), done.stderr.decode("ascii")
+FORMER = """AREA ANSWER_NUMBERS Answer Code Content LIST_DIGITS LibraryError Point Reason Refusal Severity Verdict Withdrawal answer_line answer_lines check complete
+corrections decode eas_value is_valid_creditor_identifier is_valid_iban_checksum is_white main normalize_space strip withdrawn""".split()
 
 
-class CommandLine(unittest.TestCase):
-    def assert_says(self, status: int, beginning: str, *arguments: Union[str, bytes]) -> None:
-        code, out, err = run(*arguments)
-        self.assertEqual((code, err), (status, ""), arguments)
-        self.assertTrue(out.startswith(beginning), (arguments, out))
+class Names(unittest.TestCase):
+    def test_every_name_stays(self) -> None:
+        self.assertLessEqual(set(FORMER), set(partyid.__all__))
+        for name in partyid.__all__:
+            self.assertTrue(hasattr(partyid, name), name)
+        self.assertTrue(callable(partyid.corrections) and callable(partyid.check))
 
-    def test_checks(self) -> None:
-        refused = "2 40 1 4  refused by rule 40 (severity fatal): the form is met and the check figure is wrong\n"
-        self.assert_says(1, refused, "check", "0088", "71")
-        self.assert_says(0, "1 40 1 0  accepted by rule 40", "check", "0088", "17")
-        self.assert_says(3, "0 0 0 0  no rule\n", "check", "0060", "x")
-        self.assert_says(3, "3 47 2 0  let through unread", "check", "0211", "")
-        self.assert_says(0, "1 46 2 0  accepted", "check", "9907", "12345678901")
-        self.assert_says(3, "0 0 0 0  no rule\n", "check", "9907", "12345678901", "--term", "29")
-        self.assert_says(0, "1 562 2 0  accepted", "check", "--term", "31", "", "NL123456789B12")
-        self.assert_says(1, "2 0 0 10  refused", "check", "0088", "17", "--term", str(2**32 + 34))
-        self.assert_says(0, "1 0 0 0  accepted\n", "iban", "AA750")
-        self.assert_says(1, "2 0 0 3  refused: the form", "creditor", "DE98ZZZ")
-        self.assert_says(0, "1 0 0 0  accepted\n", "gln", "0088", "1234567890128")
-        self.assert_says(3, "0 0 0 0  no rule\n", "gln", "0192", "1234567890128")
-
-    def test_arguments_are_bytes(self) -> None:
-        self.assert_says(0, "1 40 1 0", "check", "0088", b"\xc2\xa017")
-        self.assert_says(1, "2 40 1 2", "check", "0088", b"17\xff")
-        self.assert_says(3, "0 0 0 0", "check", b"\xff\xff\xff\xff", "17")
-        self.assert_says(1, "2 40 1 3", "check", "0088", "-17")
-        self.assert_says(1, "2 40 1 3", "check", "0088", "--", "--")
-        self.assert_says(1, "2 0 0 3", "iban", "--", "--help")
-
-    def test_work(self) -> None:
-        self.assert_says(0, "0 1  the check figure is 9, the whole number 79\n", "complete", "0088", "7")
-        self.assert_says(0, "0 2  the check figure is 51, the whole number 51824753556\n", "complete", "0151", "824753556")
-        self.assert_says(1, "6 0  refused: no check figure", "complete", "0192", "00000006")
-        self.assert_says(0, "0 3  numbers that the rule accepts, one slip away:\n31\n79\n17\n", "list", "0088", "71")
-        self.assert_says(0, "0 0  no number", "list", "0192", "000000000")
-        self.assert_says(1, "9 0  refused: the number is accepted", "list", "0088", "17")
-        self.assert_says(0, "2  withdrawn, its successor is 0096\n", "withdrawn", "9901")
-        self.assert_says(0, "1  withdrawn with no successor\n", "withdrawn", "9905")
-        self.assert_says(0, "0  not withdrawn\n", "withdrawn", "0088")
-
-    def test_lines(self) -> None:
-        for text, status, numbers in (
-            (b"0088 34 71\n0088 34 17\n0060 34 x\n", 1, ["2 40 1 4", "1 40 1 0", "0 0 0 0"]),
-            (b"0088 34 17\n0060 34 x", 3, ["1 40 1 0", "0 0 0 0"]),
-            (b"0088 34 17", 0, ["1 40 1 0"]),
-            (b"", 0, []),
-        ):
-            code, out, err = run("lines", "-", given=text)
-            self.assertEqual((code, [line.split("  ")[0] for line in out.splitlines()], err), (status, numbers, ""))
-            with tempfile.NamedTemporaryFile() as file:
-                file.write(text)
-                file.flush()
-                self.assertEqual(run("lines", file.name), (code, out, err))
-
-    def test_what_is_not_understood_is_status_2(self) -> None:
-        for arguments in ((), ("frob",), ("check", "0088"), ("check", "0088", "17", "17"), ("check", "0088", "17", "--term"), ("iban", "AA750", "--term", "34"),
-                          ("check", "0088", "17", "--term", "x"), ("check", "0088", "--trem"), ("lines", "no such file"), ("lines", ".")):
-            code, out, err = run(*arguments)
-            self.assertEqual((code, out), (2, ""), arguments)
-            self.assertRegex(err, "^partyid: .*\n$")
-
-    def test_help_needs_no_library_and_promises_no_party(self) -> None:
-        code, out, err = run("--help", PARTYID_LIBRARY="/no such library")
-        self.assertEqual((code, err), (0, ""))
-        self.assertIn("That says nothing about whether a party of that number\nexists", out)
-        for case in (*partyid.Verdict, *partyid.Severity, *partyid.Reason):
-            self.assertRegex(out, rf"\n +{case.value}  {case.name} +{case.words}\n")
-
-    def test_a_library_that_is_not_there_is_named(self) -> None:
-        code, out, err = run("check", "0088", "17", PARTYID_LIBRARY="/no such library")
-        self.assertEqual((code, out), (2, ""))
-        self.assertRegex(err, "^partyid: /no such library: .*make.*PARTYID_LIBRARY\n$")
+    def test_the_version_is_the_librarys(self) -> None:
+        found = re.search(r"^VERSION := (.*)$", (ROOT / "Makefile").read_text(), re.MULTILINE)
+        self.assertEqual(partyid.__version__, found and found[1])
 
 
 if __name__ == "__main__":

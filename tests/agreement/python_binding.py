@@ -2,8 +2,9 @@
 from __future__ import annotations
 
 import ctypes
-import importlib.util
+import importlib
 import pathlib
+import sys
 import types
 
 from .interface import Function, Interface, Typed, Unreadable, differing, upper_snake
@@ -20,25 +21,25 @@ TYPES = {
 }
 
 
-def load(path: pathlib.Path) -> types.ModuleType:
-    spec = importlib.util.spec_from_file_location("partyid", path)
-    assert spec and spec.loader
-    module = importlib.util.module_from_spec(spec)
-    spec.loader.exec_module(module)
-    return module
+def load(folder: pathlib.Path, name: str) -> types.ModuleType:
+    sys.path.insert(0, str(folder))
+    try:
+        return importlib.import_module(name)
+    finally:
+        sys.path.remove(str(folder))
 
 
 def c_type(kind: type) -> str:
     if isinstance(kind, type) and issubclass(kind, ctypes.Structure):
         return f"struct {struct_name(kind)}"
     if kind not in TYPES:
-        raise Unreadable(f"partyid.py: a type that is not known here: {kind}")
+        raise Unreadable(f"partyid/library.py: a type that is not known here: {kind}")
     return TYPES[kind]
 
 
 def struct_name(struct: type) -> str:
-    """_Answer -> partyid_answer."""
-    return f"partyid_{struct.__name__.strip('_').lower()}"
+    """AnswerStruct -> partyid_answer."""
+    return f"partyid_{struct.__name__.removesuffix('Struct').lower()}"
 
 
 def read_structs(module: types.ModuleType) -> dict[str, list[Typed]]:
@@ -47,7 +48,7 @@ def read_structs(module: types.ModuleType) -> dict[str, list[Typed]]:
 
 
 def read_functions(module: types.ModuleType) -> dict[str, Function]:
-    return {name: Function(c_type(gives), [(c_type(t), "") for t in takes]) for name, (gives, takes) in module._FUNCTIONS.items()}
+    return {name: Function(c_type(gives), [(c_type(t), "") for t in takes]) for name, (gives, takes) in module.FUNCTIONS.items()}
 
 
 def read_enums(module: types.ModuleType, cases: dict[str, Cases]) -> dict[str, Cases]:
@@ -62,13 +63,13 @@ def read_constants(module: types.ModuleType, wanted: dict[str, str]) -> dict[str
     return {name: str(getattr(module, name.removeprefix("PARTYID_"), "missing")) for name in names}
 
 
-def python_disagreements(path: pathlib.Path, wanted: Interface, cases: dict[str, Cases]) -> list[str]:
-    module = load(path)
+def python_disagreements(folder: pathlib.Path, wanted: Interface, cases: dict[str, Cases]) -> list[str]:
+    module, library = load(folder, "partyid"), load(folder, "partyid.library")
     numbers = {enum: [(upper_snake(case), number) for case, number in numbered] for enum, numbered in cases.items()}
     constants = read_constants(module, wanted.constants)
     return (
         differing("enum", numbers, read_enums(module, cases))
         + differing("constant", {name: wanted.constants[name] for name in constants}, constants)
-        + differing("struct", wanted.structs, read_structs(module))
-        + differing("function", types_of(wanted.functions), read_functions(module))
+        + differing("struct", wanted.structs, read_structs(library))
+        + differing("function", types_of(wanted.functions), read_functions(library))
     )
