@@ -27,7 +27,11 @@ ROOT = pathlib.Path(__file__).resolve().parent.parent
 COMMANDS = ("README.md", "docs/RULES.md")
 RULES = "docs/RULES.md"
 # Commands that are shown and not run here, each with its ground.
-NOT_RUN = {".ci/run": "the gate, of which this test is a part"}
+NOT_RUN = {
+    ".ci/run": "the gate, of which this test is a part",
+    "cc -o check examples/check.c $(pkg-config --cflags --libs partyid)": "tests/run builds it so, on an installed library",
+    "./check 0088 34 71": "tests/run compares what it prints",
+}
 SECONDS = 60
 
 sys.dont_write_bytecode = True

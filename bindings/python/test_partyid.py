@@ -265,7 +265,7 @@ class Names(unittest.TestCase):
         self.assertTrue(callable(partyid.corrections) and callable(partyid.check))
 
     def test_the_version_is_the_librarys(self) -> None:
-        found = re.search(r"^VERSION := (.*)$", (ROOT / "Makefile").read_text(), re.MULTILINE)
+        found = re.search(r'^#define PARTYID_VERSION "(.*)"$', (ROOT / "include/partyid.h").read_text(), re.MULTILINE)
         self.assertEqual(partyid.__version__, found and found[1])
 
 

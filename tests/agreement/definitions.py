@@ -54,7 +54,7 @@ def number_in(crates: pathlib.Path, file: str, *patterns: str) -> str:
 
 def area(crates: pathlib.Path) -> str:
     return number_in(
-        crates, "text/specs/Answer.antt", r"^readableOf s = cond \(leb \(length s\) (\d+)\)", r"^padded l = l \+\+ replicate \((\d+) - length l\) 0$"
+        crates, "text/specs/Answer.antt", r"^readableOf s = pick \(leb \(length s\) (\d+)\)", r"^padded l = l \+\+ replicate \((\d+) - length l\) 0$"
     )
 
 
@@ -67,6 +67,15 @@ def answer_numbers(crates: pathlib.Path, structs: dict[str, list[Typed]]) -> str
     return number_in(crates, "lines/specs/Batch.antt", r"^numbersEach = (\d+)$")
 
 
+def most_digits(crates: pathlib.Path) -> str:
+    """The most digits of a number that is listed: of the five rows, each with its form of a number, the one that takes the most."""
+    forms = dict(re.findall(r"^(\w+) = (digits \d+ \d+)$", (crates / "forms/specs/Table.antt").read_text(), re.M))
+    rows = re.findall(r"^row \w+ = rowFrom \w+ \w+ (\w+|\(digits \d+ \d+\)) ", (crates / "corrections/specs/Five.antt").read_text(), re.M)
+    if len(rows) != 5:
+        raise Unreadable(f"corrections/specs/Five.antt: {len(rows)} rows with a form of a number")
+    return str(max(int(forms.get(row, row.strip("()")).split()[2]) for row in rows))
+
+
 def constants(crates: pathlib.Path, structs: dict[str, list[Typed]]) -> dict[str, str]:
     listing = (crates / "corrections/specs/Listing.antt").read_text()
     room = re.search(r"^roomFor n = (.*)$", listing, re.M)
@@ -74,7 +83,7 @@ def constants(crates: pathlib.Path, structs: dict[str, list[Typed]]) -> dict[str
         raise Unreadable("corrections/specs/Listing.antt: no equation of roomFor")
     return {
         "PARTYID_AREA": area(crates),
-        "PARTYID_LIST_DIGITS": str(max(most for _, most in equations(listing, "mostOf"))),
+        "PARTYID_LIST_DIGITS": most_digits(crates),
         "PARTYID_LIST_ROOM(n)": room[1],
         "PARTYID_ANSWER_NUMBERS": answer_numbers(crates, structs),
     }

@@ -47,7 +47,7 @@ def rust_words(sources: pathlib.Path) -> Words:
 
 
 def python_words(path: pathlib.Path) -> Words:
-    module = load(path)
+    module = load(path, "partyid")
     return {enum: {name: member.words for name, member in getattr(module, enum.capitalize()).__members__.items()} for enum in WORDED}
 
 

@@ -30,7 +30,7 @@ numbered! {
         /// 0192: no figure completes the body.
         NoFigure = 6 "no check figure completes the body",
         /// Only 0088, 0192, 0208, 0007 and 0151 are completed and listed.
-        Scheme = 7 "the scheme is none that can be completed or listed",
+        Scheme = 7 "only 0088, 0192, 0208, 0007 and 0151 can be completed or listed",
         /// The output area is too short. The areas of this crate never are.
         Room = 8 "the output area is too short",
         /// The number is accepted: there is nothing to correct.
