@@ -22,11 +22,11 @@ figureFor k body = figureText k (checkFigure (row k .figure) body)
 abbrev pub numberWith : Five → List ℕ → List ℕ → List ℕ
 numberWith k body x = pick (row k .front) (x ++ body) (body ++ x)
 
--- why a body has no figure: for 0192 ZERO or NONE
+-- why a body has no figure: for 0192 ZERO or NO_FIGURE
 abbrev pub noFigure : Five → List ℕ → Reason
 noFigure k body = pick (row k .gaps) (mod11Reason body) NoReason
 
--- in an area of `room` bytes: FORM, then ZERO or NONE, then ROOM
+-- in an area of `room` bytes: FORM, then ZERO or NO_FIGURE, then ROOM
 unfoldable pub completedBy : Five → List ℕ → ℕ → Outcome
 completedBy k body room =
     unless (first (formReason (bodyForm k) body) (first (noFigure k body) (roomReason 2 room)))

@@ -21,7 +21,7 @@ use Rattle.corrections.specs.Listing.{roomFor, listing}
 
 -- ---- completing
 
--- ZERO and NONE stand exactly when no figure completes the body
+-- ZERO and NO_FIGURE stand exactly when no figure completes the body
 abbrev pub NoneCompletes : Five → List ℕ → Type 0
 NoneCompletes k body =
     (noFigure k body ≡ NoReason → ⊥) ↔ ((y : List ℕ) → length y ≡ length (figureFor k body) → accepts (ruleOf k) (numberWith k body y) ≡ false)

@@ -16,7 +16,7 @@ use figures::Sum;
 use figures::lacking;
 use figures::sum_of;
 
-// Why a body has no figure, by its total and its check: ZERO or NONE, where there can be none.
+// Why a body has no figure, by its total and its check: ZERO or NO_FIGURE, where there can be none.
 fn why_none(gaps: bool, total: u64, check: u64) -> Reason
     ensures { λ r. ⌜ r ≡ whyNone gaps total check ⌝ }
 {

@@ -41,7 +41,7 @@ checkFigure Mod97 body = belgianPair (number body)
 checkFigure Luhn body = lacks luhn body
 checkFigure Mod89 body = abnPair (totalBy figure50 body)
 
--- why a body of 0192 has none: ZERO for eight zeros, NONE where the check would be 10
+-- why a body of 0192 has none: ZERO for eight zeros, NO_FIGURE where the check would be 10
 abbrev pub mod11Reason : List ℕ → Reason
 mod11Reason body = pick (allZero body) Zero (pick (eqb (checkFigure Mod11 body) 10) NoFigure NoReason)
 
