@@ -1,5 +1,6 @@
-//! Document 01's numbers, and the kinds of answer that are made of them.
+//! The numbers of an answer, the kinds of answer that are made of them, and what can come of a check.
 
+use crate::functions::{Found, Input};
 use crate::library::{AREA, Answer};
 
 pub const LONG: u32 = 1;
@@ -38,10 +39,33 @@ const fn answer(verdict: u32, rule: u32, severity: u32, reason: u32) -> Answer {
     }
 }
 
-/// What the original can read of a content; document 01's reason where it can't.
+/// What the original can read of a content; the reason where it can't.
 pub fn readable(content: &[u8]) -> Result<&str, u32> {
     if AREA < content.len() {
         return Err(LONG);
     }
     str::from_utf8(content).map_err(|_| UTF8)
+}
+
+impl Found for Answer {
+    #[rustfmt::skip]
+    const OUTCOMES: &[&str] = &[
+        "no rule", "accepted", "let through", "LONG", "UTF8", "FORM", "CHECK", "ZERO", "TERM", "LINE",
+    ];
+
+    fn outcome(&self, _: Input<'_>) -> usize {
+        match (self.verdict, self.reason) {
+            (0, _) => 0,
+            (1, _) => 1,
+            (3, _) => 2,
+            (_, TERM) => 8,
+            (_, LINE) => 9,
+            (_, reason) => 2 + reason as usize,
+        }
+    }
+
+    fn written(&self) -> String {
+        let a = self;
+        format!(" {} {} {} {}", a.verdict, a.rule, a.severity, a.reason)
+    }
 }

@@ -1,4 +1,4 @@
-//! Makes the list that the program `replay` runs: examples, and what the Rust original and document 01 answer.
+//! Makes the list that the program `replay` runs: examples, and what the Rust original answers.
 //!
 //!     list            writes crates/replay/stdin and crates/replay/stdout
 //!     list --check    fails where they are not what would be written
@@ -10,7 +10,6 @@ mod lines;
 mod part;
 mod text;
 mod work;
-mod written;
 
 use std::fs;
 use std::process::ExitCode;

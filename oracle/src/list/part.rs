@@ -3,12 +3,10 @@
 use std::collections::BTreeSet;
 use std::fmt;
 
-use oracle::library::Answer;
+use oracle::functions::{Found, Function, Input, Part as Word, escaped};
 use oracle::random::Random;
 
-use crate::written::{self, REASONS, escaped};
-
-/// A content with the words before it, what the oracle answers, and what that counts as.
+/// A content with the words before it, what the original answers, and what that counts as.
 pub struct Example {
     pub head: Vec<u8>,
     pub content: Vec<u8>,
@@ -33,6 +31,7 @@ pub struct Part {
 /// What a content of just 1,024 bytes counts as, whatever the answer, and a longer one that is not LONG.
 pub const AT_THE_LIMIT: &str = "1,024 bytes";
 pub const PAST_THE_LIMIT: &str = "more than 1,024 bytes";
+const LIMITS: [&str; 2] = [AT_THE_LIMIT, PAST_THE_LIMIT];
 
 /// The outcomes whose contents are worth damaging.
 const GOOD: [&str; 3] = ["accepted", "done", "GOOD"];
@@ -63,6 +62,20 @@ impl Part {
             most: MOST,
             draw: Box::new(draw),
         }
+    }
+
+    /// The part of a row of a function: so many examples of each of its outcomes, and at the limit or past it.
+    pub fn of<F: Function>(
+        row: usize,
+        counts: &[(&'static str, usize)],
+        draw: impl Fn(&mut Random, &[Vec<u8>]) -> Example + 'static,
+    ) -> Self {
+        let (about, outcomes) = F::ROWS().swap_remove(row);
+        let mut wanted = counts.to_vec();
+        wanted.retain(|(name, _)| outcomes.contains(name) || LIMITS.contains(name));
+        let short = outcomes.len() + wanted.iter().filter(|w| LIMITS.contains(&w.0)).count();
+        assert_eq!(wanted.len(), short, "{about}: an outcome without a count");
+        Self::new(F::LETTER, &about, &wanted, draw)
     }
 
     /// With contents of so many bytes.
@@ -141,19 +154,32 @@ impl fmt::Display for Part {
 }
 
 impl Example {
-    /// An example whose answer is the four numbers.
-    pub fn answered(head: Vec<u8>, content: Vec<u8>, answer: Answer) -> Self {
+    /// A function of a scheme, a number and a content, as far as it reads them.
+    pub fn of<F: Function>(scheme: &[u8], number: u64, content: Vec<u8>) -> Self {
+        let input = Input {
+            scheme,
+            number,
+            content: &content,
+        };
+        let found = F::ORIGINAL(input);
         Self {
-            head,
+            head: head(F::PARTS, input),
+            answer: found.written(),
+            outcome: F::Found::OUTCOMES[found.outcome(input)],
             content,
-            answer: written::answer(answer),
-            outcome: match answer.verdict {
-                0 => "no rule",
-                1 => "accepted",
-                3 => "let through",
-                _ => REASONS[answer.reason as usize],
-            },
         }
+    }
+
+    /// The first bytes of the content count as words before it.
+    pub fn behind(mut self, bytes: usize) -> Self {
+        self.head.extend(self.content.drain(..bytes));
+        self
+    }
+
+    /// Counted under a name of its own.
+    pub fn named(self, name: impl Fn(&'static str) -> &'static str) -> Self {
+        let outcome = name(self.outcome);
+        Self { outcome, ..self }
     }
 
     pub fn whole(&self) -> Vec<u8> {
@@ -167,4 +193,14 @@ impl Example {
             _ => self.outcome,
         }
     }
+}
+
+/// The words before the content.
+fn head(parts: &[Word], input: Input<'_>) -> Vec<u8> {
+    let words = parts.iter().map(|part| match part {
+        Word::Scheme => [input.scheme, b" "].concat(),
+        Word::Number(_) => format!("{} ", input.number).into_bytes(),
+        Word::Content(_) => Vec::new(),
+    });
+    words.collect::<Vec<_>>().concat()
 }
