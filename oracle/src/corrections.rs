@@ -189,10 +189,13 @@ fn called(input: Input<'_>, library: fn(&[u8], &[u8], &mut [u8]) -> Done) -> Are
     Area { head, area }
 }
 
-fn lent(input: Input<'_>, original: fn(&[u8], &[u8], usize) -> (Done, String)) -> Area {
+/// What comes of a scheme and a content with room for so many bytes, and what is written.
+type Work = fn(&[u8], &[u8], usize) -> (Done, String);
+
+fn lent(input: Input<'_>, original: Work) -> Area {
     let room = input.number as usize;
     let (head, written) = original(input.scheme, input.content, room);
-    Area::written(head, written.as_bytes(), FILL, room)
+    Area::filled(head, written.as_bytes(), FILL, room)
 }
 
 /// A row for each scheme in the order of `FIVE`, and one for all others.

@@ -73,7 +73,8 @@ pub struct Lent<H, T> {
 
 impl<H, T: Clone> Lent<H, T> {
     /// The area as it was filled, but for what is written at its start.
-    pub fn written(head: H, written: &[T], fill: T, room: usize) -> Self {
+    pub fn filled(head: H, written: &[T], fill: T, room: usize) -> Self {
+        assert!(written.len() <= room);
         let mut area = written.to_vec();
         area.resize(room, fill);
         Self { head, area }

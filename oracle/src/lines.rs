@@ -87,7 +87,7 @@ impl Function for AnswerLines {
         let (batch, numbers) = answer_lines(i.content, room);
         let all = if room < 4 { 0 } else { usize::MAX };
         Lines {
-            first: Lent::written(batch, &numbers, FILL, room),
+            first: Lent::filled(batch, &numbers, FILL, room),
             all: answer_lines(i.content, all).1,
         }
     };

@@ -126,7 +126,7 @@ fn called(content: &[u8], library: fn(&[u8], &mut [u8; AREA]) -> Text) -> Area {
 }
 
 fn lent((head, text): (Text, String)) -> Area {
-    Area::written(head, text.as_bytes(), 0, AREA)
+    Area::filled(head, text.as_bytes(), 0, AREA)
 }
 
 impl Found for Area {

@@ -6,7 +6,8 @@ use oracle::original::WITHDRAWN;
 use oracle::random::Random;
 
 use crate::draw;
-use crate::part::{AT_THE_LIMIT, Example, PAST_THE_LIMIT, Part};
+use crate::example::{AT_THE_LIMIT, Example, PAST_THE_LIMIT};
+use crate::part::Part;
 
 /// How many examples of each outcome.
 const ACCOUNT: [(&str, usize); 6] = [

@@ -5,7 +5,8 @@ use oracle::random::Random;
 use oracle::rules::{ByRule, Check};
 
 use crate::draw;
-use crate::part::{AT_THE_LIMIT, Example, PAST_THE_LIMIT, Part};
+use crate::example::{AT_THE_LIMIT, Example, PAST_THE_LIMIT};
+use crate::part::Part;
 
 /// Schemes that no rule knows. A scheme holds no blank, which would end it.
 const STRANGE_SCHEMES: [&str; 14] = [

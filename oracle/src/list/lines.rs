@@ -4,7 +4,8 @@ use oracle::known::BY_NUMBER;
 use oracle::lines::{AnswerLine, AnswerLines, HEAD};
 use oracle::random::Random;
 
-use crate::part::{AT_THE_LIMIT, Example, PAST_THE_LIMIT, Part};
+use crate::example::{AT_THE_LIMIT, Example, PAST_THE_LIMIT};
+use crate::part::Part;
 use crate::{draw, fields};
 
 /// How many examples of each outcome.

@@ -5,6 +5,7 @@
 
 mod accounts;
 mod draw;
+mod example;
 mod fields;
 mod lines;
 mod part;

@@ -3,16 +3,10 @@
 use std::collections::BTreeSet;
 use std::fmt;
 
-use oracle::functions::{Found, Function, Input, Part as Word, escaped};
+use oracle::functions::{Function, escaped};
 use oracle::random::Random;
 
-/// A content with the words before it, what the original answers, and what that counts as.
-pub struct Example {
-    pub head: Vec<u8>,
-    pub content: Vec<u8>,
-    pub answer: String,
-    pub outcome: &'static str,
-}
+use crate::example::{AT_THE_LIMIT, Example, PAST_THE_LIMIT};
 
 /// Draws an example: at random, or by damaging one of the good contents it is given.
 type Draw = Box<dyn Fn(&mut Random, &[Vec<u8>]) -> Example>;
@@ -28,9 +22,7 @@ pub struct Part {
     draw: Draw,
 }
 
-/// What a content of just 1,024 bytes counts as, whatever the answer, and a longer one that is not LONG.
-pub const AT_THE_LIMIT: &str = "1,024 bytes";
-pub const PAST_THE_LIMIT: &str = "more than 1,024 bytes";
+/// Counts of these stand beside those of the outcomes.
 const LIMITS: [&str; 2] = [AT_THE_LIMIT, PAST_THE_LIMIT];
 
 /// The outcomes whose contents are worth damaging.
@@ -71,10 +63,13 @@ impl Part {
         draw: impl Fn(&mut Random, &[Vec<u8>]) -> Example + 'static,
     ) -> Self {
         let (about, outcomes) = F::ROWS().swap_remove(row);
-        let mut wanted = counts.to_vec();
-        wanted.retain(|(name, _)| outcomes.contains(name) || LIMITS.contains(name));
-        let short = outcomes.len() + wanted.iter().filter(|w| LIMITS.contains(&w.0)).count();
-        assert_eq!(wanted.len(), short, "{about}: an outcome without a count");
+        let count = |outcome: &&str| {
+            let count = counts.iter().find(|(name, _)| name == outcome);
+            count.unwrap_or_else(|| panic!("{about}: no count of {outcome}"))
+        };
+        let limits = counts.iter().filter(|(name, _)| LIMITS.contains(name));
+        let wanted = outcomes.iter().map(count).chain(limits);
+        let wanted: Vec<_> = wanted.copied().collect();
         Self::new(F::LETTER, &about, &wanted, draw)
     }
 
@@ -151,56 +146,4 @@ impl fmt::Display for Part {
         let wanted: Vec<String> = wanted.collect();
         write!(f, "{} {}: {}", self.command, self.about, wanted.join("; "))
     }
-}
-
-impl Example {
-    /// A function of a scheme, a number and a content, as far as it reads them.
-    pub fn of<F: Function>(scheme: &[u8], number: u64, content: Vec<u8>) -> Self {
-        let input = Input {
-            scheme,
-            number,
-            content: &content,
-        };
-        let found = F::ORIGINAL(input);
-        Self {
-            head: head(F::PARTS, input),
-            answer: found.written(),
-            outcome: F::Found::OUTCOMES[found.outcome(input)],
-            content,
-        }
-    }
-
-    /// The first bytes of the content count as words before it.
-    pub fn behind(mut self, bytes: usize) -> Self {
-        self.head.extend(self.content.drain(..bytes));
-        self
-    }
-
-    /// Counted under a name of its own.
-    pub fn named(self, name: impl Fn(&'static str) -> &'static str) -> Self {
-        let outcome = name(self.outcome);
-        Self { outcome, ..self }
-    }
-
-    pub fn whole(&self) -> Vec<u8> {
-        [&self.head[..], &self.content].concat()
-    }
-
-    fn counts_as(&self) -> &'static str {
-        match self.content.len() {
-            1024 => AT_THE_LIMIT,
-            1025.. if self.outcome != "LONG" => PAST_THE_LIMIT,
-            _ => self.outcome,
-        }
-    }
-}
-
-/// The words before the content.
-fn head(parts: &[Word], input: Input<'_>) -> Vec<u8> {
-    let words = parts.iter().map(|part| match part {
-        Word::Scheme => [input.scheme, b" "].concat(),
-        Word::Number(_) => format!("{} ", input.number).into_bytes(),
-        Word::Content(_) => Vec::new(),
-    });
-    words.collect::<Vec<_>>().concat()
 }

@@ -7,7 +7,8 @@ use oracle::random::Random;
 use oracle::text::{NormalizeSpace, Strip, point_at};
 
 use crate::draw;
-use crate::part::{AT_THE_LIMIT, Example, Part};
+use crate::example::{AT_THE_LIMIT, Example};
+use crate::part::Part;
 
 pub fn parts() -> Vec<Part> {
     vec![

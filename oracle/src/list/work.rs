@@ -7,7 +7,8 @@ use oracle::random::Random;
 use oracle::text;
 
 use crate::draw;
-use crate::part::{AT_THE_LIMIT, Example, PAST_THE_LIMIT, Part};
+use crate::example::{AT_THE_LIMIT, Example, PAST_THE_LIMIT};
+use crate::part::Part;
 
 /// How many examples of each outcome.
 const COMPLETE: [(&str, usize); 5] = [
