@@ -14,6 +14,14 @@ def unescaped(line):
     return re.sub(rb"\\([0-9a-f]{2})", lambda m: bytes([int(m[1], 16)]), line.encode("ascii"))
 
 
+def raw(field):
+    return field if isinstance(field, bytes) else str(field).encode()
+
+
+def joined(*words):
+    return b" ".join(map(raw, words))
+
+
 def numbers(answer):
     return " ".join(map(str, answer))
 
