@@ -75,7 +75,8 @@ impl<H, T: Clone> Lent<H, T> {
     /// The area as it was filled, but for what is written at its start.
     pub fn filled(head: H, written: &[T], fill: T, room: usize) -> Self {
         assert!(written.len() <= room);
-        let mut area = written.to_vec();
+        let mut area = Vec::with_capacity(room);
+        area.extend_from_slice(written);
         area.resize(room, fill);
         Self { head, area }
     }

@@ -13,6 +13,7 @@ pub struct Known {
     pub rule: &'static Rule,
     /// Empty where the rule looks at no scheme.
     pub scheme: &'static str,
+    code: u32,
     /// The term at which the rule is compared, and all at which it reads.
     pub term: u32,
     pub terms: &'static [u32],
@@ -74,6 +75,7 @@ const fn known(
     Known {
         rule,
         scheme,
+        code: code(scheme.as_bytes()),
         term,
         terms: SCHEMED,
         also,
@@ -136,10 +138,18 @@ impl Known {
 
 /// The place of the rule that reads a field.
 pub fn at(scheme: &[u8], term: u32) -> Option<usize> {
-    KNOWN.iter().position(|known| {
-        known.terms.contains(&term)
-            && (known.scheme.is_empty() || known.scheme.as_bytes() == scheme)
-    })
+    let code = code(scheme);
+    KNOWN
+        .iter()
+        .position(|known| (known.code == code || known.code == 0) && known.terms.contains(&term))
+}
+
+/// A scheme's four bytes as one number, by which it is found for every content and rule; 0 where they are not four.
+const fn code(scheme: &[u8]) -> u32 {
+    match *scheme {
+        [a, b, c, d] => u32::from_be_bytes([a, b, c, d]),
+        _ => 0,
+    }
 }
 
 /// The rules by their numbers.

@@ -119,9 +119,8 @@ impl Function for Strip {
 }
 
 fn called(content: &[u8], library: fn(&[u8], &mut [u8; AREA]) -> Text) -> Area {
-    let mut area = [0xaa; AREA];
-    let head = library(content, &mut area);
-    let area = area.to_vec();
+    let mut area = vec![0xaa; AREA];
+    let head = library(content, area.first_chunk_mut().expect("all of it"));
     Area { head, area }
 }
 
