@@ -1,18 +1,19 @@
 #!/usr/bin/env python3
-"""Holds the built program target/bin/checklines against paper.py, docs/RULES.md read in Python.
+"""Holds the built program target/bin/checklines against paper/, the rules read in Python: lines_test.py [SEED]
 
-    lines_test.py [SEED]      feeds random and adversarial inputs through a pipe, in chunks of random sizes with
-                              pauses between them, and compares every byte of the output
-    lines_test.py --cases     writes the program's own stdin and stdout files: the example of docs/RULES.md and the hard cases"""
+Random and adversarial inputs go through a pipe, in chunks of random sizes with pauses between them; every byte of the output is compared."""
 import os, pathlib, random, subprocess, sys, threading, time
 
 sys.dont_write_bytecode = True  # no folder beside the sources
-import paper
+from paper.lines import answers
+from paper.rules import BY_SCHEME, RULES, SCHEME_TERMS, VAT_TERMS
+from paper.text import WHITE
+from worked.program_lines import program_input
 
 ROOT = pathlib.Path(__file__).resolve().parent.parent
 PROGRAM = ROOT / "target" / "bin" / "checklines"
 COMMAND = [ROOT / "machine" / "run", PROGRAM]
-TERMS = paper.SCHEME_TERMS + paper.VAT_TERMS
+TERMS = SCHEME_TERMS + VAT_TERMS
 
 # ---- contents
 
@@ -23,8 +24,8 @@ def number(rng, n):
 
 def completed(scheme, candidates):
     """The first of some numbers that the scheme's rule accepts."""
-    reason = paper.RULES[paper.BY_SCHEME[scheme]][4]
-    return next((c for c in candidates if reason(c) == 0), "0")
+    rule = RULES[BY_SCHEME[scheme]]
+    return next((c for c in candidates if rule.reason(c) == 0), "0")
 
 
 def good(rng, scheme):
@@ -57,7 +58,7 @@ def good(rng, scheme):
 def damaged(rng, text):
     """A text with one thing wrong, or only white about it."""
     i = rng.randrange(len(text) + 1)
-    white = chr(rng.choice(sorted(paper.WHITE - {10})))
+    white = chr(rng.choice(sorted(WHITE - {10})))
     kind = rng.randrange(6)
     if kind == 0:
         return text[:i] + rng.choice("0123456789XIT+-é\u200b") + text[i + 1:]
@@ -92,7 +93,7 @@ def content(rng, scheme):
 
 
 def line(rng):
-    scheme = rng.choice(sorted(paper.BY_SCHEME))
+    scheme = rng.choice(sorted(BY_SCHEME))
     term = rng.choice(TERMS + (34, 34, 34, 49, 29))
     text = content(rng, scheme)
     kind = rng.randrange(30)
@@ -110,7 +111,7 @@ def line(rng):
         head = scheme + b" 3%d4 " % rng.randrange(10)
     elif kind == 5:
         text = b"NL" + text if rng.random() < 0.5 else good(rng, b"9944").encode()
-        head = scheme + b" %d " % rng.choice(paper.VAT_TERMS)
+        head = scheme + b" %d " % rng.choice(VAT_TERMS)
     elif kind == 6:
         text += b"\r"
     return head + text
@@ -181,12 +182,12 @@ def run(data, rng):
 
 def compare(seed):
     rng = random.Random(seed)
-    fixed = [b"", b"\n", b"x", b"0088 34 ", b"0088 34 17", b"0088 34 71\n0088 34 17\n0060 34 x\n", cases()]
+    fixed = [b"", b"\n", b"x", b"0088 34 ", b"0088 34 17", b"0088 34 71\n0088 34 17\n0060 34 x\n", program_input()]
     counts, inputs, lines, size, pieces, wrong = {}, 0, 0, 0, 0, 0
     began = time.time()
     while inputs < 360:
         data = fixed[inputs] if inputs < len(fixed) else KINDS[inputs % len(KINDS)](rng)
-        want = paper.answers(data)
+        want = answers(data)
         got, cuts = run(data, rng)
         for answer in want.splitlines():
             counts[answer] = counts.get(answer, 0) + 1
@@ -197,8 +198,8 @@ def compare(seed):
     print(f"checklines: {inputs} inputs of {lines:,} lines and {size:,} bytes in {pieces:,} pieces, "
           f"{len(counts)} different answers, {wrong} differences ({time.time() - began:.0f} s, seed {seed})")
     rules = {a.split()[1] for a in counts if a.split()[0] == b"1"} & {a.split()[1] for a in counts if a.split()[0] == b"2"}
-    print(f"accepted and refused at least once by each of {len(rules - {b'0'})} of {len(paper.RULES)} rules")
-    return wrong == 0 and len(rules - {b"0"}) == len(paper.RULES)
+    print(f"accepted and refused at least once by each of {len(rules - {b'0'})} of {len(RULES)} rules")
+    return wrong == 0 and len(rules - {b"0"}) == len(RULES)
 
 
 def report(index, data, want, got):
@@ -210,55 +211,7 @@ def report(index, data, want, got):
             return
 
 
-# ---- the program's own files
-
-
-def cases():
-    """The example of docs/RULES.md and the hard cases; the last line has no newline."""
-    lines = [b"0088 34 71", b"0088 34 17", b"0060 34 x"]
-    # malformed heads: too short, empty, a wrong byte at each place, a third or a missing digit, a tab, a sign
-    lines += [b"", b"0", b"0088", b"0088 34", b"0088 3", b"0088 34x", b"0088-34 17", b"0088 x4 17", b"0088 3x 17", b"0088 34-17", b"0088  34 17",
-              b"0088 4 17", b"0088 034 17", b"0088 340 17", b"0088\t34 17", b"0088 34\t17", b"0088 +4 17", b" 0088 34 17", b"088 34 17", b"00088 34 17",
-              "0088 3\u0664 17".encode(), b"\xef\xbb\xbf0088 34 17", b"\r"]
-    # schemes of any bytes, compared byte for byte; terms that are not named
-    lines += [b"     34 17", b"\0\0\0\0 34 17", b"\xff\xfe\xc0\x80 34 17", b"008\xb8 34 17", "0é8 34 17".encode(), b"0088 00 17", b"0088 33 17", b"0088 35 17",
-              b"0088 99 17", b"zzzz 99 \xff", b"zzzz 31 x", b"zzzz 31 NL123456789B01"]
-    # a CR belongs to the content; NUL does too
-    lines += [b"0088 34 17\r", b"0184 34 12345678\r", b"0096 34 1234567890\r", b"0088 34 1\x007", b"0088 34 \x00", b"0060 34 \x00"]
-    # not UTF-8, where a rule reads, where none does, and where the content would be let through
-    lines += [b"0088 34 17\xff", b"0060 34 17\xff", b"0088 33 17\xff", b"0184 34 12345678\xc0\xaf", b"0088 34 \xed\xa0\x80", b"0211 34 \xf4\x90\x80\x80", b"0088 31 x\xe2\x80",
-              b"0088 34 \xc2\xa017", b"0088 34 \xe3\x80\x8017\xe2\x80\xa8", b"0088 34 17\xe2\x80\x8b", b"0088 34 \xef\xbb\xbf17"]
-    # lengths about 1,024 and beyond, read by a rule or by none
-    for head in (b"0088 34 ", b"0060 34 ", b"0088 35 ", b"0211 34 ", b"0088 48 ", b"0184 34 "):
-        lines += [head + b"0" * n for n in (1023, 1024, 1025, 1026, 5000)]
-    lines += [b"0088 34 " + b" " * 1022 + b"17", b"0088 34 " + b" " * 1023 + b"17", b"0088 34 " + b"0" * 1022 + "é".encode(), b"0088 34 " + b"0" * 1023 + "é".encode(),
-              b"0088 34 " + b"0" * 1024 + b"\xff", b"0088 34 " + b"0" * 1023 + b"\xff", b"0088 3 " + b"0" * 5000, b"x" * 70000]
-    # empty content
-    lines += [scheme + b" 34 " for scheme in sorted(paper.BY_SCHEME)] + [b"0088 31 ", b"0060 34 "]
-    # each scheme both ways, by its rule and by its neighbours
-    yes = {b"0088": "1234567890128", b"0192": "123456785", b"0184": "DK12345678", b"0208": "0000009797", b"0201": "a1B2c3", b"0210": "ABCDEF+1G 2xyz3H", b"9907": "+1234567890",
-           b"0211": "IT12345678903", b"0007": "1234567897", b"0151": "01000100000", b"0096": "1234567890", b"0198": "DK12345678", b"0106": "12345678",
-           b"0190": "12345678901234567890", b"0217": "123456789012", b"9944": "NL123456789B01"}
-    no = {b"0088": "1234567890182", b"0192": "123456784", b"0184": "Dk12345678", b"0208": "0000009700", b"0201": "a1B2c", b"0210": "ABCDEF+1G 2xyzéH", b"9907": "12345678901+",
-          b"0211": "it12345678904", b"0007": "1234567898", b"0151": "51824753557", b"0096": "123456789O", b"0198": "12345678", b"0106": "1234 5678",
-          b"0190": "1234567890123456789", b"0217": "1234567890123", b"9944": "NL123456789b01"}
-    for scheme in sorted(yes):
-        for term in (34, 29, 61):
-            lines += [scheme + b" %d " % term + t.encode() for t in (yes[scheme], no[scheme], " " + yes[scheme] + "\u00a0")]
-    for term in TERMS:
-        lines += [b"9907 %d 12345678901" % term, b"0192 %d NL123456789B01" % term, b"0192 %d NL1" % term]
-    # the other examples of docs/RULES.md
-    lines += [s.encode() for s in ("0088 34 0", "0088 34 505", "0088 34 550", "0192 34 000000140", "0192 34 000000000", "0208 34 1234567894", "0007 34 0000000901",
-                                   "0007 34 0000000091", "0151 34 51824753556", "0151 34 10000000000", "0211 34 It1", "0184 34  12345678")]
-    return b"\n".join(lines) + b"\n0088 34 17"
-
-
 def main(words):
-    if words == ["--cases"]:
-        folder = ROOT / "crates" / "checklines"
-        (folder / "stdin").write_bytes(cases())
-        (folder / "stdout").write_bytes(paper.answers(cases()))
-        return True
     if not PROGRAM.exists():
         print(f"{PROGRAM} is not built: run `rt check checklines` first")
         return False

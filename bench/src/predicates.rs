@@ -1,7 +1,7 @@
 //! The field check and the answer to a line as a Rust caller of the original would write them: over its predicates.
 //!
 //! A predicate only says yes or no: a refusal has the reason FORM whether form or check figure is wrong, and what a rule lets
-//! through unread is accepted. The rest of the answer is that of docs/RULES.md, Reasons.
+//! through unread is accepted. The rest of the answer is as the rules have it.
 
 use oracle::answers::{FORM, LINE, NO_RULE, TERM, accepted, readable, refused};
 use oracle::library::Answer;

@@ -1,7 +1,9 @@
 //! The original's IBAN, creditor identifier, strict GLN and withdrawn codes.
 
 use crate::answers::{CHECK, FORM, NO_RULE, accepted, readable, refused};
-use crate::library::{Answer, Code};
+use crate::functions::Part::{Content, Scheme};
+use crate::functions::{Call, Found, Function, Input, Part, Rows, escaped, row};
+use crate::library::{self, Answer, Code};
 use crate::original::{self, open};
 
 pub fn iban(content: &[u8]) -> Answer {
@@ -65,4 +67,67 @@ fn is_iban_form(s: &str) -> bool {
         && b.iter().all(u8::is_ascii_alphanumeric)
         && b[..2].iter().all(u8::is_ascii_alphabetic)
         && b[2..4].iter().all(u8::is_ascii_digit)
+}
+
+pub struct Iban;
+
+impl Function for Iban {
+    type Found = Answer;
+    const PARTS: &[Part] = &[Content("content")];
+    const LIBRARY: Call<Answer> = |i| library::is_valid_iban_checksum(i.content);
+    const ORIGINAL: Call<Answer> = |i| iban(i.content);
+    const ROWS: Rows = || row("iban", &["accepted", "LONG", "UTF8", "FORM", "CHECK"]);
+    const LETTER: char = 'i';
+}
+
+pub struct Creditor;
+
+impl Function for Creditor {
+    type Found = Answer;
+    const PARTS: &[Part] = &[Content("content")];
+    const LIBRARY: Call<Answer> = |i| library::is_valid_creditor_identifier(i.content);
+    const ORIGINAL: Call<Answer> = |i| creditor(i.content);
+    const ROWS: Rows = || row("creditor", &["accepted", "LONG", "UTF8", "FORM"]);
+    const LETTER: char = 'r';
+}
+
+pub struct EasValue;
+
+impl Function for EasValue {
+    type Found = Answer;
+    const PARTS: &[Part] = &[Scheme, Content("content")];
+    const LIBRARY: Call<Answer> = |i| library::eas_value(i.scheme, i.content);
+    const ORIGINAL: Call<Answer> = |i| eas_value(i.scheme, i.content);
+    const ROWS: Rows = || {
+        let outcomes = ["no rule", "accepted", "LONG", "UTF8", "FORM", "CHECK"];
+        row("eas_value", &outcomes)
+    };
+    const LETTER: char = 'g';
+}
+
+pub struct Withdrawn;
+
+impl Function for Withdrawn {
+    type Found = Code;
+    const PARTS: &[Part] = &[Content("code")];
+    const LIBRARY: Call<Code> = |i| library::withdrawn(i.content);
+    const ORIGINAL: Call<Code> = |i| withdrawn(i.content);
+    const ROWS: Rows = || row("withdrawn", Code::OUTCOMES);
+    const LETTER: char = 'w';
+}
+
+impl Found for Code {
+    const OUTCOMES: &[&str] = &["not withdrawn", "no successor", "successor"];
+
+    fn outcome(&self, _: Input<'_>) -> usize {
+        self.answer as usize
+    }
+
+    fn written(&self) -> String {
+        match self.answer {
+            0 => " not withdrawn".to_owned(),
+            1 => " withdrawn".to_owned(),
+            _ => format!(" withdrawn, use {}", escaped(&self.successor)),
+        }
+    }
 }

@@ -1,8 +1,8 @@
 //! The contents that every run compares, whatever its count and seed.
 
 use crate::identifiers::GOOD;
-use crate::inputs::{BYTES, EDGES, WHITE};
 use crate::library::AREA;
+use crate::points::{BYTES, EDGES, WHITE};
 
 /// First bytes at the ends of RFC 3629's rows, and further bytes at the ends of its ranges.
 const FIRST: [u8; 20] = [
@@ -59,18 +59,6 @@ fn rows(each: &mut impl FnMut(&[u8])) {
                 FURTHER.iter().for_each(|&d| each(&[a, b, c, d]));
             }
         }
-    }
-}
-
-/// A number below 0x14_0000 as a code point is spelled, in two to four bytes; well-formed where it is one that takes so many.
-pub fn spelled(c: u32) -> Vec<u8> {
-    let tail = |c: u32| 0x80 | (c & 0x3f) as u8;
-    if c < 0x800 {
-        vec![0xc0 | (c >> 6) as u8, tail(c)]
-    } else if c < 0x1_0000 {
-        vec![0xe0 | (c >> 12) as u8, tail(c >> 6), tail(c)]
-    } else {
-        vec![0xf0 | (c >> 18) as u8, tail(c >> 12), tail(c >> 6), tail(c)]
     }
 }
 

@@ -1,33 +1,10 @@
 //! Schemes and terms: those that a rule reads, near misses and any others.
 
 use crate::identifiers::GOOD;
-use crate::inputs::BYTES;
+use crate::known::{KNOWN, TERMS};
 use crate::library::AREA;
+use crate::points::BYTES;
 use crate::random::Random;
-
-/// A scheme and a term at which each rule applies, in the order of the original's list.
-pub const FIELDS: [(&str, u32); 17] = [
-    ("0088", 34),
-    ("0192", 29),
-    ("0184", 30),
-    ("0208", 46),
-    ("0201", 47),
-    ("0210", 49),
-    ("9907", 34),
-    ("0211", 60),
-    ("0007", 61),
-    ("0151", 34),
-    ("0096", 29),
-    ("0198", 30),
-    ("0106", 46),
-    ("0190", 47),
-    ("9944", 49),
-    ("", 31),
-    ("0217", 60),
-];
-
-/// The terms that a rule reads.
-pub const TERMS: [u32; 11] = [29, 30, 31, 34, 46, 47, 48, 49, 60, 61, 63];
 
 /// Codes of four digits that no rule is about: successors, withdrawn ones, and others of the lists.
 const OTHERS: [&str; 20] = [
@@ -55,7 +32,7 @@ const NEAR: [&[u8]; 14] = [
 
 /// Every scheme of a rule, other codes, near misses, and long ones.
 pub fn schemes() -> Vec<Vec<u8>> {
-    let codes = FIELDS.iter().map(|(scheme, _)| scheme.as_bytes());
+    let codes = KNOWN.iter().map(|known| known.scheme.as_bytes());
     let others = OTHERS.iter().map(|scheme| scheme.as_bytes());
     let long = ["0088".repeat(2500), format!("0088{}", " ".repeat(9996))];
     codes
@@ -70,9 +47,9 @@ pub fn schemes() -> Vec<Vec<u8>> {
 pub fn codes() -> Vec<Vec<u8>> {
     let digits = (0..10_000).map(|n| format!("{n:04}").into_bytes());
     let mut codes: Vec<_> = digits.collect();
-    for (scheme, _) in FIELDS {
-        for at in 0..=scheme.len() {
-            let (before, behind) = scheme.as_bytes().split_at(at);
+    for known in &KNOWN {
+        for at in 0..=known.scheme.len() {
+            let (before, behind) = known.scheme.as_bytes().split_at(at);
             let rest = behind.get(1..).unwrap_or(behind);
             codes.push([before, rest].concat());
             for b in 0..=0xff {
@@ -125,13 +102,13 @@ fn cut_short(term: u32) -> [u32; 5] {
 pub fn scheme(r: &mut Random, scheme: &mut Vec<u8>) {
     scheme.clear();
     match r.below(20) {
-        0..=11 => scheme.extend(r.among(&FIELDS).0.as_bytes()),
+        0..=11 => scheme.extend(r.among(&KNOWN).scheme.as_bytes()),
         12..=13 => scheme.extend(r.among(&OTHERS).as_bytes()),
         14 => scheme.extend(*r.among(&NEAR)),
         15 => (0..4).for_each(|_| scheme.push(b'0' + r.below(10) as u8)),
         16 => (0..r.below(9)).for_each(|_| scheme.push(r.byte())),
         _ => {
-            scheme.extend(r.among(&FIELDS).0.as_bytes());
+            scheme.extend(r.among(&KNOWN).scheme.as_bytes());
             near_miss(r, scheme);
         }
     }

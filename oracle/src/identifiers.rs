@@ -1,7 +1,7 @@
 //! Contents that a rule accepts or nearly accepts, as they come: whole, with a slip of the hand, with white around them.
 
-use crate::inputs::WHITE;
 use crate::original::{self, open};
+use crate::points::WHITE;
 use crate::random::Random;
 
 /// Contents of every form that a rule or an account accepts, the shortest and the longest where lengths differ, and codes that were withdrawn.
@@ -52,43 +52,7 @@ pub fn near(r: &mut Random, content: &mut Vec<u8>) {
     content.extend(text);
 }
 
-/// A content made for the rule of a scheme: accepted, with a slip of the hand, or zeros.
-pub fn made_for(r: &mut Random, scheme: &[u8]) -> Vec<u8> {
-    if r.one_in(40) {
-        return vec![b'0'; 8 + r.below(4)];
-    }
-    let mut content = accepted_by(r, scheme).into_bytes();
-    if r.one_in(2) {
-        slip(r, &mut content);
-    }
-    content
-}
-
-/// A content that the rule of a scheme accepts; for other schemes one that some rule accepts.
-pub fn accepted_by(r: &mut Random, scheme: &[u8]) -> String {
-    match scheme {
-        b"0088" => {
-            let n = 1 + r.below(20);
-            figure(r, n, 1, open::gln)
-        }
-        b"0192" => figure(r, 9, 1, open::mod11),
-        b"0184" | b"0198" => spelled(r, "DK########"),
-        b"0208" => figure(r, 10, 2, open::mod97_0208),
-        b"0201" => spelled(r, "******"),
-        b"0210" | b"9907" => codice(r),
-        b"0211" => italian(r),
-        b"0007" => figure(r, 10, 1, open::se_orgnr),
-        b"0151" => figure(r, 11, 2, open::abn),
-        b"0096" => spelled(r, "##########"),
-        b"0106" => spelled(r, "########"),
-        b"0190" => spelled(r, "####################"),
-        b"0217" => spelled(r, "############"),
-        b"9944" => spelled(r, "NL#########B##"),
-        _ => accepted(r),
-    }
-}
-
-fn accepted(r: &mut Random) -> String {
+pub fn accepted(r: &mut Random) -> String {
     match r.below(14) {
         0 => {
             let n = 1 + r.below(22);
@@ -116,14 +80,14 @@ fn accepted(r: &mut Random) -> String {
     }
 }
 
-fn digits(r: &mut Random, n: usize) -> String {
+pub fn digits(r: &mut Random, n: usize) -> String {
     (0..n)
         .map(|_| char::from(b'0' + r.below(10) as u8))
         .collect()
 }
 
 /// n digits of which the last ones are tried until they are right; where none is, as they are.
-fn figure(r: &mut Random, n: usize, width: usize, accepts: fn(&str) -> bool) -> String {
+pub fn figure(r: &mut Random, n: usize, width: usize, accepts: fn(&str) -> bool) -> String {
     let body = digits(r, n - width.min(n));
     let mut whole = body.clone();
     for figure in 0..10_u8.pow(width as u32) {
@@ -143,14 +107,14 @@ fn italian_figure(number: &str) -> bool {
     open::partita_iva(&format!("IT{number}"))
 }
 
-fn italian(r: &mut Random) -> String {
+pub fn italian(r: &mut Random) -> String {
     let number = figure(r, 11, 1, italian_figure);
     let prefix = *r.among(&["IT", "it", "It", "iT", "IT ", "DE"]);
     format!("{prefix}{number}")
 }
 
 /// `#` a digit, `&` a letter, `*` a letter or a digit, any other character itself.
-fn spelled(r: &mut Random, classes: &str) -> String {
+pub fn spelled(r: &mut Random, classes: &str) -> String {
     classes
         .chars()
         .map(|class| match class {
@@ -168,7 +132,7 @@ fn letter(r: &mut Random) -> char {
 }
 
 /// A codice fiscale: signs and blanks where an integer text allows them, and points of several bytes where anything stands.
-fn codice(r: &mut Random) -> String {
+pub fn codice(r: &mut Random) -> String {
     let integer = |r: &mut Random, n: usize| -> String {
         let sign = *r.among(&["", "", "+", "-", " ", "\u{2003}"]);
         let n = n - sign.chars().count();
@@ -201,7 +165,7 @@ fn account(r: &mut Random) -> String {
 }
 
 /// A digit or letter replaced, two neighbours exchanged, one left out or one too many.
-fn slip(r: &mut Random, text: &mut Vec<u8>) {
+pub fn slip(r: &mut Random, text: &mut Vec<u8>) {
     if text.is_empty() {
         return;
     }

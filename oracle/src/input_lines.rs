@@ -1,8 +1,9 @@
 //! Lines and texts of lines, as they come and damaged.
 
-use crate::fields::{FIELDS, TERMS, near_miss};
-use crate::identifiers::{GOOD, accepted_by, made_for};
+use crate::fields::near_miss;
+use crate::identifiers::GOOD;
 use crate::inputs;
+use crate::known::{KNOWN, TERMS, accepted_by, made_for};
 use crate::lines::{HEAD, READ};
 use crate::random::Random;
 
@@ -21,7 +22,7 @@ pub fn every_line() -> Vec<Vec<u8>> {
 
 /// Every scheme of a rule with every term and contents of every form.
 fn every_head(lines: &mut Vec<Vec<u8>>) {
-    for (scheme, _) in FIELDS {
+    for scheme in KNOWN.iter().map(|known| known.scheme) {
         for term in 0..100 {
             let contents = GOOD.iter().chain(&["", "IT", "NL", "71"]);
             lines.extend(contents.map(|s| format!("{scheme:<4} {term:02} {s}").into_bytes()));
@@ -97,7 +98,7 @@ pub fn text(r: &mut Random, most: usize, text: &mut Vec<u8>) {
 
 /// A head, and the scheme in it.
 fn head(r: &mut Random, line: &mut Vec<u8>) -> &'static str {
-    let scheme = match r.among(&FIELDS).0 {
+    let scheme = match r.among(&KNOWN).scheme {
         "" => "0060",
         scheme => scheme,
     };

@@ -2,9 +2,9 @@
 
 use crate::corrections::{FIVE, Five, room_for};
 use crate::fields::near_miss;
-use crate::identifiers::accepted_by;
-use crate::inputs::WHITE;
+use crate::known::accepted_by;
 use crate::library::AREA;
+use crate::points::WHITE;
 use crate::random::Random;
 
 pub fn body(r: &mut Random, five: &Five) -> Vec<u8> {

@@ -1,7 +1,9 @@
-//! The line program by docs/RULES.md, The line program: each line's answer is the field check of the original.
+//! One line, and the lines of a text: each line's answer is the field check of the original.
 
 use crate::answers::{LINE, refused};
-use crate::library::{Answer, Batch};
+use crate::functions::Part::{Content, Number};
+use crate::functions::{Call, Found, Function, Input, Lent, Part, Rows, row};
+use crate::library::{self, Answer, Batch};
 use crate::rules;
 
 /// The bytes of a line before its content.
@@ -10,7 +12,7 @@ pub const HEAD: usize = 8;
 /// What is read of a content: one byte more than a rule may read.
 pub const READ: usize = 1025;
 
-/// The answer to a line, its newline left out: the four bytes of the scheme, a space, the two digits of the term, a space, the content.
+/// The answer to a line, its newline left out: 4 scheme bytes, space, two digits of term, space, content.
 pub fn answer_line(line: &[u8]) -> Answer {
     let Some((
         &[
@@ -48,4 +50,93 @@ pub fn answer_lines(text: &[u8], room: usize) -> (Batch, Vec<u32>) {
 /// The lines with their newlines; the last one may have none, and is then not empty.
 pub fn lines(text: &[u8]) -> impl Iterator<Item = &[u8]> {
     text.split_inclusive(|&b| b == b'\n')
+}
+
+pub struct AnswerLine;
+
+impl Function for AnswerLine {
+    type Found = Answer;
+    const PARTS: &[Part] = &[Content("line")];
+    const LIBRARY: Call<Answer> = |i| library::answer_line(i.content);
+    const ORIGINAL: Call<Answer> = |i| answer_line(i.content);
+    const ROWS: Rows = || row("answer_line", Answer::OUTCOMES);
+    const LETTER: char = 'a';
+}
+
+pub struct AnswerLines;
+
+/// Both counts and every number of the area; and the numbers of as many calls as it takes to the end, each from where the one before it ended.
+#[derive(Debug, PartialEq)]
+pub struct Lines {
+    first: Lent<Batch, u32>,
+    all: Vec<u32>,
+}
+
+impl Function for AnswerLines {
+    type Found = Lines;
+    const PARTS: &[Part] = &[Number("room"), Content("text")];
+    const LIBRARY: Call<Lines> = |i| {
+        let room = i.number as usize;
+        Lines {
+            first: called(i.content, room),
+            all: by_parts(i.content, room),
+        }
+    };
+    const ORIGINAL: Call<Lines> = |i| {
+        let room = i.number as usize;
+        let (batch, numbers) = answer_lines(i.content, room);
+        let all = if room < 4 { 0 } else { usize::MAX };
+        Lines {
+            first: Lent::filled(batch, &numbers, FILL, room),
+            all: answer_lines(i.content, all).1,
+        }
+    };
+    const ROWS: Rows = || row("answer_lines", Lines::OUTCOMES);
+    const LETTER: char = 'b';
+}
+
+/// What an area is filled with before a call: a number that no answer has.
+const FILL: u32 = 999;
+
+fn called(text: &[u8], room: usize) -> Lent<Batch, u32> {
+    let mut area = vec![FILL; room];
+    let head = library::answer_lines(text, &mut area);
+    Lent { head, area }
+}
+
+/// A call that takes nothing ends it.
+fn by_parts(text: &[u8], room: usize) -> Vec<u32> {
+    let mut numbers = Vec::new();
+    let mut at = 0;
+    while at < text.len() {
+        let Lent { head, area } = called(&text[at..], room);
+        numbers.extend(area.iter().take(4 * head.count));
+        if head.used == 0 {
+            break;
+        }
+        at += head.used;
+    }
+    numbers
+}
+
+impl Found for Lines {
+    #[rustfmt::skip]
+    const OUTCOMES: &[&str] = &["no line", "no room", "some lines", "all, ended", "all, unended"];
+
+    fn outcome(&self, input: Input<'_>) -> usize {
+        let Batch { count, used } = self.first.head;
+        match input.content.last() {
+            None => 0,
+            Some(_) if count == 0 => 1,
+            Some(_) if used < input.content.len() => 2,
+            Some(b'\n') => 3,
+            Some(_) => 4,
+        }
+    }
+
+    fn written(&self) -> String {
+        let Batch { count, used } = self.first.head;
+        let area = self.first.area.iter().map(|n| format!(" {n}"));
+        format!(" {count} {used}{}", area.collect::<String>())
+    }
 }

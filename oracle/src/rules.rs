@@ -1,9 +1,12 @@
 //! The field check as the original's seventeen rules give it, each on an invoice with that field alone.
 
 use crate::answers::{CHECK, FORM, NO_RULE, TERM, ZERO, accepted, readable, refused, unread};
-use crate::invoice::{Invoice, Rule, Severity};
-use crate::library::Answer;
-use crate::original::{COMMON, open};
+use crate::functions::Part::{Content, Number, Scheme};
+use crate::functions::{Call, Found, Function, Input, Part, Rows};
+use crate::invoice::{Invoice, Rule};
+use crate::known::{self, KNOWN, Known, TERMS, VAT};
+use crate::library::{self, Answer};
+use crate::original::open;
 
 /// The answer to a field: its scheme, the number of its term and its content.
 pub fn answer(scheme: &[u8], term: u32, content: &[u8]) -> Answer {
@@ -12,33 +15,33 @@ pub fn answer(scheme: &[u8], term: u32, content: &[u8]) -> Answer {
         return refused(0, 0, TERM);
     }
     match rule_for(scheme, term) {
-        Some(rule) => answer_by(rule, scheme, term, content),
+        Some(known) => answer_by(known, scheme, term, content),
         None => NO_RULE,
     }
 }
 
 /// A scheme as the original can hold it. Bytes that are not UTF-8 are none of its codes: an identifier without a scheme stands for them.
-pub fn held(scheme: &[u8]) -> Option<&str> {
+fn held(scheme: &[u8]) -> Option<&str> {
     str::from_utf8(scheme).ok()
 }
 
 /// The rule that reads a field, found by asking the original: every rule of a scheme reports `IT`, and the rule of VAT numbers reports `NL`.
-pub fn rule_for(scheme: Option<&str>, term: u32) -> Option<&'static Rule> {
+fn rule_for(scheme: Option<&str>, term: u32) -> Option<&'static Known> {
     ["IT", "NL"]
         .iter()
         .find_map(|bad| reporting(scheme, term, bad).next())
 }
 
 /// Every rule that reports a field.
-pub fn reporting(
+fn reporting(
     scheme: Option<&str>,
     term: u32,
     content: &str,
-) -> impl Iterator<Item = &'static Rule> {
+) -> impl Iterator<Item = &'static Known> {
     let inv = Invoice::with_field(scheme, term, content).unwrap_or_default();
-    COMMON
-        .into_iter()
-        .filter(move |rule| refuses(rule, &inv, term))
+    KNOWN
+        .iter()
+        .filter(move |known| refuses(known.rule, &inv, term))
 }
 
 /// Whether a rule reports the field of an invoice, at that field's term.
@@ -52,62 +55,115 @@ fn refuses(rule: &Rule, inv: &Invoice, term: u32) -> bool {
 }
 
 /// The answer of the rule that reads the field.
-pub fn answer_by(rule: &Rule, scheme: Option<&str>, term: u32, content: &[u8]) -> Answer {
-    let (number, severity) = (number(rule), severity(rule));
+fn answer_by(known: &Known, scheme: Option<&str>, term: u32, content: &[u8]) -> Answer {
+    let (number, severity) = (known.number(), known.severity());
     let text = match readable(content) {
         Ok(text) => text,
         Err(reason) => return refused(number, severity, reason),
     };
     let inv = Invoice::with_field(scheme, term, text).expect("a term that the rule reads");
-    if refuses(rule, &inv, term) {
-        refused(number, severity, reason(number, text))
-    } else if lets_through(number, text) {
+    if refuses(known.rule, &inv, term) {
+        refused(number, severity, reason(known, text))
+    } else if lets_through(known, text) {
         unread(number, severity)
     } else {
         accepted(number, severity)
     }
 }
 
-/// The digits of the published name: 40 of `PEPPOL-COMMON-R040`, 562 of `PEPPOL-COMMON-R056-2`.
-pub fn number(rule: &Rule) -> u32 {
-    let name = &rule.id.0["PEPPOL-COMMON-R".len()..];
-    let digits = name.bytes().filter(u8::is_ascii_digit);
-    digits.fold(0, |number, d| 10 * number + u32::from(d - b'0'))
-}
-
-pub fn severity(rule: &Rule) -> u32 {
-    match rule.severity {
-        Severity::Fatal => 1,
-        Severity::Warning => 2,
-    }
-}
-
 /// Why a rule refused a text. Where a rule has no check figure, what it refuses lacks the form.
-fn reason(number: u32, text: &str) -> u32 {
-    let form = match number {
-        40 => open::all_digits(&open::normalize_space(text)),
-        41 => open::n_digits(text, 9),
-        43 | 49 => open::n_digits(text, 10),
-        47 => open::normalize_space(text)
-            .get(2..)
-            .is_some_and(|code| code.len() == 11 && open::all_digits(code)),
-        50 => open::n_digits(text, 11),
-        _ => false,
-    };
-    match form {
+fn reason(known: &Known, text: &str) -> u32 {
+    match known.has_form(text) {
         false => FORM,
-        true if number == 41 && open::normalize_space(text) == "000000000" => ZERO,
+        true if known.also.contains(&"ZERO") && open::normalize_space(text) == "000000000" => ZERO,
         true => CHECK,
     }
 }
 
-/// Rules 47 and 562 are about contents with their prefix. The original accepts all others, and doesn't say that it read nothing.
-fn lets_through(number: u32, text: &str) -> bool {
-    let prefixes: &[&str] = match number {
-        47 => &["IT", "it"],
-        562 => &["NL"],
-        _ => return false,
+fn lets_through(known: &Known, text: &str) -> bool {
+    let begins = |prefix: &&str| open::normalize_space(text).starts_with(prefix);
+    !known.prefixes.iter().any(begins)
+}
+
+/// The field check where a rule reads the field: against that rule, on an invoice with that field.
+pub struct ByRule;
+
+impl Function for ByRule {
+    type Found = Answer;
+    const PARTS: &[Part] = &[Scheme, Number("term"), Content("content")];
+    const LIBRARY: Call<Answer> = |i| library::check(i.scheme, i.number as u32, i.content);
+    const ORIGINAL: Call<Answer> = |i| {
+        let term = i.number as u32;
+        known::at(i.scheme, term).map_or(NO_RULE, |place| {
+            answer_by(&KNOWN[place], held(i.scheme), term, i.content)
+        })
     };
-    let text = open::normalize_space(text);
-    !prefixes.iter().any(|prefix| text.starts_with(prefix))
+    const ROWS: Rows = || {
+        let name = |known: &Known| format!("rule {}", known.number());
+        let rows = KNOWN.iter().map(|known| (name(known), known.outcomes()));
+        rows.collect()
+    };
+    const ROW: Call<usize> = |i| known::at(i.scheme, i.number as u32).unwrap_or(0);
+    const LETTER: char = 'c';
+}
+
+/// The field check at any field: which rule reads it, and its answer, against all seventeen of the original's rules on an invoice with that field.
+pub struct Check;
+
+/// An answer, and the rules that report the field: none or one, where the original can read the content.
+#[derive(Debug, PartialEq)]
+pub struct Judged {
+    pub answer: Answer,
+    pub reporting: Vec<u32>,
+}
+
+impl Function for Check {
+    type Found = Judged;
+    const PARTS: &[Part] = &[Scheme, Number("term"), Content("content")];
+    const LIBRARY: Call<Judged> = |i| {
+        let answer = library::check(i.scheme, i.number as u32, i.content);
+        let refuses = answer.verdict == 2 && answer.reason != TERM && readable(i.content).is_ok();
+        let reporting = if refuses { vec![answer.rule] } else { vec![] };
+        Judged { answer, reporting }
+    };
+    const ORIGINAL: Call<Judged> = |i| {
+        let term = i.number as u32;
+        let text = readable(i.content);
+        let reporting = text.map(|text| reporting(held(i.scheme), term, text));
+        Judged {
+            answer: answer(i.scheme, term, i.content),
+            reporting: reporting.map_or(vec![], |rules| rules.map(Known::number).collect()),
+        }
+    };
+    const ROWS: Rows = || {
+        let at = |term: u32| (format!("check at {term}"), outcomes_at(term));
+        let elsewhere = ("check elsewhere".to_owned(), vec!["TERM"]);
+        TERMS.into_iter().map(at).chain([elsewhere]).collect()
+    };
+    const ROW: Call<usize> = |i| {
+        let place = TERMS.iter().position(|&term| u64::from(term) == i.number);
+        place.unwrap_or(TERMS.len())
+    };
+    const LETTER: char = 'c';
+}
+
+impl Found for Judged {
+    const OUTCOMES: &[&str] = Answer::OUTCOMES;
+
+    fn outcome(&self, input: Input<'_>) -> usize {
+        self.answer.outcome(input)
+    }
+
+    fn written(&self) -> String {
+        self.answer.written()
+    }
+}
+
+/// What can come of all the rules of a term; where the scheme counts, there may be none.
+fn outcomes_at(term: u32) -> Vec<&'static str> {
+    let rules = KNOWN.iter().filter(|known| known.terms.contains(&term));
+    let can: Vec<_> = rules.flat_map(Known::outcomes).collect();
+    let can = |name: &str| can.contains(&name) || name == "no rule" && !VAT.contains(&term);
+    let all = Answer::OUTCOMES.iter().copied();
+    all.filter(|name| can(name)).collect()
 }

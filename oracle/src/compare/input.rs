@@ -1,12 +1,6 @@
-//! What a function is called with, and how an input is made smaller.
+//! How an input is made smaller.
 
-/// A scheme, a number (a term, a room, a place, a code point) and a content. A function reads those that it has words for.
-#[derive(Clone, Copy, Default)]
-pub struct Input<'a> {
-    pub scheme: &'a [u8],
-    pub number: u64,
-    pub content: &'a [u8],
-}
+use oracle::functions::Input;
 
 /// An input that is kept. Of two, the one with fewer bytes is the smaller, then the one with the lower number.
 #[derive(Clone, PartialEq, Eq, PartialOrd, Ord)]
@@ -42,29 +36,18 @@ impl Kept {
 pub fn smallest(input: Input<'_>, differs: impl Fn(Input<'_>) -> bool) -> Kept {
     let mut best = Kept::from(input);
     loop {
-        let now = best.input();
-        let content = fewer(now.content, |content| differs(Input { content, ..now }));
-        let now = Input {
-            content: &content,
-            ..now
-        };
-        let scheme = fewer(now.scheme, |scheme| differs(Input { scheme, ..now }));
-        let now = Input {
-            scheme: &scheme,
-            ..now
-        };
-        let number = lower(now.number, |number| differs(Input { number, ..now }));
-        let now = Input { number, ..now };
-        let content = plainer(now.content, |content| differs(Input { content, ..now }));
-        let now = Input {
-            content: &content,
-            ..now
-        };
-        let scheme = plainer(now.scheme, |scheme| differs(Input { scheme, ..now }));
-        let next = Kept::from(Input {
-            scheme: &scheme,
-            ..now
-        });
+        let mut next = best.clone();
+        for smaller in [fewer, plainer] {
+            let now = next.input();
+            let content = smaller(now.content, &|content| differs(Input { content, ..now }));
+            next.content = content;
+            let now = next.input();
+            let scheme = smaller(now.scheme, &|scheme| differs(Input { scheme, ..now }));
+            next.scheme = scheme;
+            let now = next.input();
+            next.number = lower(now.number, |number| differs(Input { number, ..now }));
+        }
+        next = Kept::from(next.input());
         if next == best {
             return best;
         }
@@ -73,7 +56,7 @@ pub fn smallest(input: Input<'_>, differs: impl Fn(Input<'_>) -> bool) -> Kept {
 }
 
 /// Drops bytes, in halves, quarters and so on; at last in fours, threes, twos and ones, as many as a point takes.
-fn fewer(bytes: &[u8], differs: impl Fn(&[u8]) -> bool) -> Vec<u8> {
+fn fewer(bytes: &[u8], differs: &dyn Fn(&[u8]) -> bool) -> Vec<u8> {
     let mut best = bytes.to_vec();
     let mut size = best.len();
     while 0 < size {
@@ -111,7 +94,7 @@ fn lower(number: u64, differs: impl Fn(u64) -> bool) -> u64 {
 }
 
 /// Puts a zero for each byte.
-fn plainer(bytes: &[u8], differs: impl Fn(&[u8]) -> bool) -> Vec<u8> {
+fn plainer(bytes: &[u8], differs: &dyn Fn(&[u8]) -> bool) -> Vec<u8> {
     let mut best = bytes.to_vec();
     for at in 0..best.len() {
         let byte = std::mem::replace(&mut best[at], b'0');
@@ -120,28 +103,4 @@ fn plainer(bytes: &[u8], differs: impl Fn(&[u8]) -> bool) -> Vec<u8> {
         }
     }
     best
-}
-
-/// Bytes as they are written in Rust, but for long runs of one byte.
-pub fn shown(bytes: &[u8]) -> String {
-    const LONG: usize = 32;
-    let mut words = Vec::new();
-    let mut short = 0..0;
-    let literal = |bytes: &[u8]| format!("b\"{}\"", bytes.escape_ascii());
-    for run in bytes.chunk_by(|a, b| a == b) {
-        let end = short.end + run.len();
-        if run.len() < LONG {
-            short.end = end;
-            continue;
-        }
-        if !short.is_empty() {
-            words.push(literal(&bytes[short.clone()]));
-        }
-        words.push(format!("{} times {}", run.len(), literal(&run[..1])));
-        short = end..end;
-    }
-    if !short.is_empty() || words.is_empty() {
-        words.push(literal(&bytes[short]));
-    }
-    words.join(", then ")
 }

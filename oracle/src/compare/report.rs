@@ -1,53 +1,48 @@
 //! The tallies of a run.
 
-use super::input::Input;
-use super::tally::{Kind, Tally};
-use super::{accounts, corrections, fields, lines, rules, text};
+use std::any::TypeId;
 
-/// The kinds of functions, in the order in which they are printed.
-static KINDS: [&Kind; 11] = [
-    &text::DECODING,
-    &text::WHITE_POINTS,
-    &text::TEXTS,
-    &rules::RULES,
-    &fields::FIELDS,
-    &accounts::ACCOUNTS,
-    &accounts::STRICT,
-    &lines::LINE,
-    &accounts::CODES,
-    &corrections::CORRECTIONS,
-    &lines::LINES,
-];
+use oracle::accounts::{Creditor, EasValue, Iban, Withdrawn};
+use oracle::corrections::{Complete, List};
+use oracle::functions::{Function, Input};
+use oracle::lines::{AnswerLine, AnswerLines};
+use oracle::rules::{ByRule, Check};
+use oracle::text::{Decode, IsWhite, NormalizeSpace, Strip};
 
-/// The place of a kind among them.
-#[derive(Clone, Copy)]
-pub enum Of {
-    Decoding,
-    WhitePoints,
-    Texts,
-    Rules,
-    Fields,
-    Accounts,
-    Strict,
-    Line,
-    Codes,
-    Corrections,
-    Lines,
-}
+use super::tally::Tally;
 
 pub struct Report {
     tallies: Vec<Tally>,
 }
 
 impl Report {
+    /// The functions in the order in which they are printed.
     pub fn new() -> Self {
         Self {
-            tallies: KINDS.iter().map(|kind| Tally::new(kind)).collect(),
+            tallies: vec![
+                Tally::of::<Decode>(),
+                Tally::of::<IsWhite>(),
+                Tally::of::<NormalizeSpace>(),
+                Tally::of::<Strip>(),
+                Tally::of::<ByRule>(),
+                Tally::of::<Check>(),
+                Tally::of::<Iban>(),
+                Tally::of::<Creditor>(),
+                Tally::of::<EasValue>(),
+                Tally::of::<AnswerLine>(),
+                Tally::of::<Withdrawn>(),
+                Tally::of::<Complete>(),
+                Tally::of::<List>(),
+                Tally::of::<AnswerLines>(),
+            ],
         }
     }
 
-    pub fn compare(&mut self, of: Of, function: usize, input: Input<'_>) {
-        self.tallies[of as usize].compare(function, input);
+    pub fn compare<F: Function>(&mut self, input: Input<'_>) {
+        let function = TypeId::of::<F>();
+        let mut tallies = self.tallies.iter_mut();
+        let tally = tallies.find(|tally| tally.function == function);
+        tally.expect("a function of the report").compare(input);
     }
 
     pub fn begin_block(&mut self) {

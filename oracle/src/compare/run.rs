@@ -2,14 +2,13 @@
 
 use std::ops::Range;
 
-use oracle::fields::FIELDS;
-use oracle::identifiers::made_for;
+use oracle::known::{KNOWN, made_for};
 use oracle::random::Random;
 use oracle::{exhaustive, input_lines, input_numbers, inputs};
 
 use super::report::Report;
 use super::work::{Part, run};
-use super::{contents, corrections, fields, lines, points, text};
+use super::{contents, corrections, fields, lines};
 
 /// A random content is compared by every function that reads one. The other functions cost more: each has one input for so many contents.
 const FIELD: u64 = 2;
@@ -22,13 +21,11 @@ const BLOCK: u64 = 5000;
 
 /// The report, and how many contents there were.
 pub fn compare(count: u64, seed: u64) -> (Report, u64) {
-    let contents = Contents::every();
+    let all = Contents::every();
     let parts = [
-        over(text::numbers(), 100_000, text::white_points),
-        Part::new(points::COUNT, BLOCK, points::every),
-        Part::new(contents.count(), BLOCK, |range, report| {
-            contents.run(range, report)
-        }),
+        over(contents::numbers(), 100_000, contents::white_points),
+        Part::new(contents::POINTS, BLOCK, contents::every_point),
+        Part::new(all.count(), BLOCK, |range, report| all.run(range, report)),
         over(oracle::fields::contents(), 1, fields::every),
         over(oracle::fields::codes(), BLOCK, fields::codes),
         over(oracle::fields::contents(), 1, corrections::any),
@@ -37,7 +34,7 @@ pub fn compare(count: u64, seed: u64) -> (Report, u64) {
         over(input_lines::every_text(), 100, lines::every_text),
         Part::new(count, BLOCK, |range, report| random(seed, range, report)),
     ];
-    let total = points::COUNT + contents.count() + count;
+    let total = contents::POINTS + all.count() + count;
     (run(&parts), total)
 }
 
@@ -108,7 +105,7 @@ fn random(seed: u64, range: Range<u64>, report: &mut Report) {
 /// A random content, now and then one made for a rule. Long ones cost more and tell less: three of four are drawn again.
 fn draw(r: &mut Random, content: &mut Vec<u8>) {
     if r.one_in(16) {
-        let (scheme, _) = r.among(&FIELDS);
+        let scheme = r.among(&KNOWN).scheme;
         *content = made_for(r, scheme.as_bytes());
         return;
     }

@@ -1,73 +1,50 @@
 //! IBAN, creditor identifier, strict GLN and the withdrawn codes.
 
-use oracle::accounts;
-use oracle::library::Answer;
+use oracle::accounts::{Creditor, EasValue, Iban, Withdrawn};
+use oracle::functions::Function;
 use oracle::original::WITHDRAWN;
 use oracle::random::Random;
 
 use crate::draw;
-use crate::part::{AT_THE_LIMIT, Example, PAST_THE_LIMIT, Part};
-use crate::written;
+use crate::example::{AT_THE_LIMIT, Example, PAST_THE_LIMIT};
+use crate::part::Part;
+
+/// How many examples of each outcome.
+const ACCOUNT: [(&str, usize); 6] = [
+    ("accepted", 130),
+    ("FORM", 130),
+    ("CHECK", 130),
+    ("UTF8", 20),
+    ("LONG", 5),
+    (AT_THE_LIMIT, 2),
+];
+const STRICT: [(&str, usize); 8] = [
+    ("accepted", 80),
+    ("FORM", 100),
+    ("CHECK", 60),
+    ("UTF8", 20),
+    ("LONG", 5),
+    ("no rule", 40),
+    (AT_THE_LIMIT, 2),
+    (PAST_THE_LIMIT, 1),
+];
+const CODES: [(&str, usize); 3] = [
+    ("not withdrawn", 80),
+    ("no successor", 1), // there is one such code
+    ("successor", 11),
+];
 
 pub fn parts() -> Vec<Part> {
     vec![
-        Part::new(
-            'i',
-            "IBAN",
-            &[
-                ("accepted", 130),
-                ("FORM", 130),
-                ("CHECK", 130),
-                ("UTF8", 20),
-                ("LONG", 5),
-                (AT_THE_LIMIT, 2),
-            ],
-            |r, good| account(r, good, accounts::iban),
-        ),
-        Part::new(
-            'r',
-            "creditor identifier",
-            &[
-                ("accepted", 130),
-                ("FORM", 130),
-                ("UTF8", 20),
-                ("LONG", 5),
-                (AT_THE_LIMIT, 2),
-            ],
-            |r, good| account(r, good, accounts::creditor),
-        ),
-        Part::new(
-            'g',
-            "strict GLN",
-            &[
-                ("accepted", 80),
-                ("FORM", 100),
-                ("CHECK", 60),
-                ("UTF8", 20),
-                ("LONG", 5),
-                ("no rule", 40),
-                (AT_THE_LIMIT, 2),
-                (PAST_THE_LIMIT, 1),
-            ],
-            gln,
-        ),
-        Part::new(
-            'w',
-            "withdrawn codes",
-            &[
-                ("not withdrawn", 80),
-                ("no successor", 1), // there is one such code
-                ("successor", 11),
-            ],
-            withdrawn,
-        ),
+        Part::of::<Iban>(0, &ACCOUNT, account::<Iban>),
+        Part::of::<Creditor>(0, &ACCOUNT, account::<Creditor>),
+        Part::of::<EasValue>(0, &STRICT, gln),
+        Part::of::<Withdrawn>(0, &CODES, withdrawn),
     ]
 }
 
-fn account(r: &mut Random, good: &[Vec<u8>], original: fn(&[u8]) -> Answer) -> Example {
-    let content = draw::content(r, good);
-    let answer = original(&content);
-    Example::answered(Vec::new(), content, answer)
+fn account<F: Function>(r: &mut Random, good: &[Vec<u8>]) -> Example {
+    Example::of::<F>(b"", 0, draw::content(r, good))
 }
 
 fn gln(r: &mut Random, good: &[Vec<u8>]) -> Example {
@@ -76,9 +53,7 @@ fn gln(r: &mut Random, good: &[Vec<u8>]) -> Example {
     } else {
         "0088"
     };
-    let content = draw::content(r, good);
-    let answer = accounts::eas_value(scheme.as_bytes(), &content);
-    Example::answered(format!("{scheme} ").into_bytes(), content, answer)
+    Example::of::<EasValue>(scheme.as_bytes(), 0, draw::content(r, good))
 }
 
 /// A withdrawn code, or one damaged, or a number beside them.
@@ -91,11 +66,5 @@ fn withdrawn(r: &mut Random, _: &[Vec<u8>]) -> Example {
     if r.one_in(3) {
         draw::damage(r, &mut content);
     }
-    let code = accounts::withdrawn(&content);
-    Example {
-        head: Vec::new(),
-        content,
-        answer: written::code(code),
-        outcome: ["not withdrawn", "no successor", "successor"][code.answer as usize],
-    }
+    Example::of::<Withdrawn>(b"", 0, content)
 }

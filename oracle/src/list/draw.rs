@@ -1,6 +1,7 @@
 //! Contents: the oracle's random ones, and good ones that are damaged or filled up to the limit.
 
-use oracle::inputs::{self, WHITE};
+use oracle::inputs;
+use oracle::points::WHITE;
 use oracle::random::Random;
 
 /// Nearly what a rule reads: digits of other scripts, a letter, points that look white, bytes beside the digits and letters, signs, halves of a character.

@@ -1,16 +1,16 @@
-//! Makes the list that the program `replay` runs: examples, and what the Rust original and docs/RULES.md answer.
+//! Makes the list that the program `replay` runs: examples, and what the Rust original answers.
 //!
 //!     list            writes crates/replay/stdin and crates/replay/stdout
 //!     list --check    fails where they are not what would be written
 
 mod accounts;
 mod draw;
+mod example;
 mod fields;
 mod lines;
 mod part;
 mod text;
 mod work;
-mod written;
 
 use std::fs;
 use std::process::ExitCode;

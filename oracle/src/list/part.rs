@@ -3,18 +3,10 @@
 use std::collections::BTreeSet;
 use std::fmt;
 
-use oracle::library::Answer;
+use oracle::functions::{Function, escaped};
 use oracle::random::Random;
 
-use crate::written::{self, REASONS, escaped};
-
-/// A content with the words before it, what the oracle answers, and what that counts as.
-pub struct Example {
-    pub head: Vec<u8>,
-    pub content: Vec<u8>,
-    pub answer: String,
-    pub outcome: &'static str,
-}
+use crate::example::{AT_THE_LIMIT, Example, PAST_THE_LIMIT};
 
 /// Draws an example: at random, or by damaging one of the good contents it is given.
 type Draw = Box<dyn Fn(&mut Random, &[Vec<u8>]) -> Example>;
@@ -30,9 +22,8 @@ pub struct Part {
     draw: Draw,
 }
 
-/// What a content of just 1,024 bytes counts as, whatever the answer, and a longer one that is not LONG.
-pub const AT_THE_LIMIT: &str = "1,024 bytes";
-pub const PAST_THE_LIMIT: &str = "more than 1,024 bytes";
+/// Counts of these stand beside those of the outcomes.
+const LIMITS: [&str; 2] = [AT_THE_LIMIT, PAST_THE_LIMIT];
 
 /// The outcomes whose contents are worth damaging.
 const GOOD: [&str; 3] = ["accepted", "done", "GOOD"];
@@ -63,6 +54,23 @@ impl Part {
             most: MOST,
             draw: Box::new(draw),
         }
+    }
+
+    /// The part of a row of a function: so many examples of each of its outcomes, and at the limit or past it.
+    pub fn of<F: Function>(
+        row: usize,
+        counts: &[(&'static str, usize)],
+        draw: impl Fn(&mut Random, &[Vec<u8>]) -> Example + 'static,
+    ) -> Self {
+        let (about, outcomes) = F::ROWS().swap_remove(row);
+        let count = |outcome: &&str| {
+            let count = counts.iter().find(|(name, _)| name == outcome);
+            count.unwrap_or_else(|| panic!("{about}: no count of {outcome}"))
+        };
+        let limits = counts.iter().filter(|(name, _)| LIMITS.contains(name));
+        let wanted = outcomes.iter().map(count).chain(limits);
+        let wanted: Vec<_> = wanted.copied().collect();
+        Self::new(F::LETTER, &about, &wanted, draw)
     }
 
     /// With contents of so many bytes.
@@ -137,34 +145,5 @@ impl fmt::Display for Part {
         let wanted = self.wanted.iter().map(|(name, n)| format!("{name} {n}"));
         let wanted: Vec<String> = wanted.collect();
         write!(f, "{} {}: {}", self.command, self.about, wanted.join("; "))
-    }
-}
-
-impl Example {
-    /// An example whose answer is the four numbers.
-    pub fn answered(head: Vec<u8>, content: Vec<u8>, answer: Answer) -> Self {
-        Self {
-            head,
-            content,
-            answer: written::answer(answer),
-            outcome: match answer.verdict {
-                0 => "no rule",
-                1 => "accepted",
-                3 => "let through",
-                _ => REASONS[answer.reason as usize],
-            },
-        }
-    }
-
-    pub fn whole(&self) -> Vec<u8> {
-        [&self.head[..], &self.content].concat()
-    }
-
-    fn counts_as(&self) -> &'static str {
-        match self.content.len() {
-            1024 => AT_THE_LIMIT,
-            1025.. if self.outcome != "LONG" => PAST_THE_LIMIT,
-            _ => self.outcome,
-        }
     }
 }

@@ -1,16 +1,21 @@
 //! Decoding, normalising and stripping.
 
+use oracle::functions::{Found, Function};
 use oracle::inputs;
-use oracle::library::Text;
+use oracle::library::Point;
 use oracle::random::Random;
-use oracle::text;
+use oracle::text::{NormalizeSpace, Strip, point_at};
 
 use crate::draw;
-use crate::part::{AT_THE_LIMIT, Example, Part};
-use crate::written::{self, is_white};
+use crate::example::{AT_THE_LIMIT, Example};
+use crate::part::Part;
 
 pub fn parts() -> Vec<Part> {
-    vec![decode(), normalize_space(), strip()]
+    vec![
+        decode(),
+        Part::of::<NormalizeSpace>(0, &TEXT, |r, _| changed::<NormalizeSpace>(r)),
+        Part::of::<Strip>(0, &TEXT, |r, _| changed::<Strip>(r)),
+    ]
 }
 
 fn decode() -> Part {
@@ -62,8 +67,8 @@ fn spelled(r: &mut Random) -> Vec<u8> {
 
 /// The step of decoding at each place and at the end.
 fn steps(content: Vec<u8>) -> Example {
-    let points = (0..=content.len()).map(|at| text::point_at(&content, at));
-    let answer = points.clone().map(written::point).collect();
+    let points = (0..=content.len()).map(|at| point_at(&content, at));
+    let answer = points.clone().map(|point| point.written()).collect();
     let longest = points.max_by_key(|p| (p.len, is_white(*p)));
     let outcome = match longest.map(|p| (p.len, is_white(p))) {
         _ if str::from_utf8(&content).is_err() => "ill-formed",
@@ -83,50 +88,26 @@ fn steps(content: Vec<u8>) -> Example {
     }
 }
 
-/// What can come of a text; only normalising can change one and leave it as long.
+/// What Rust calls white, of a code point.
+fn is_white(point: Point) -> bool {
+    point.len != 0 && char::from_u32(point.code).is_some_and(char::is_whitespace)
+}
+
+/// How many examples of each outcome of a text.
 const TEXT: [(&str, usize); 7] = [
     ("LONG", 5),
     ("UTF8", 60),
     ("nothing left", 20),
     ("unchanged", 70),
     ("shorter", 90),
+    ("same length", 50),
     (AT_THE_LIMIT, 5),
-    ("as long, other bytes", 50),
 ];
 
-fn normalize_space() -> Part {
-    Part::new('n', "normalising", &TEXT, |r, _| {
-        changed(r, text::normalized)
-    })
-}
-
-fn strip() -> Part {
-    Part::new('s', "stripping", &TEXT[..6], |r, _| {
-        changed(r, text::stripped)
-    })
-}
-
-fn changed(r: &mut Random, original: fn(&[u8]) -> (Text, String)) -> Example {
+fn changed<F: Function>(r: &mut Random) -> Example {
     let mut content = draw::any(r);
     if r.one_in(3) {
         inputs::random(r, &mut content);
     }
-    let (head, text) = original(&content);
-    Example {
-        head: Vec::new(),
-        outcome: outcome(&content, head, &text),
-        answer: written::text(head, &text),
-        content,
-    }
-}
-
-fn outcome(content: &[u8], head: Text, text: &str) -> &'static str {
-    match head {
-        Text { reason: 1, .. } => "LONG",
-        Text { reason: 2, .. } => "UTF8",
-        Text { len: 0, .. } => "nothing left",
-        _ if text.as_bytes() == content => "unchanged",
-        _ if text.len() < content.len() => "shorter",
-        _ => "as long, other bytes",
-    }
+    Example::of::<F>(b"", 0, content)
 }
