@@ -8,7 +8,7 @@ use native.Mathlib.Omega.{arith}
 use borrow.Author.Tests.{eqb-true}
 use lib.Dec.{eqb}
 use lib.IntN.{natAbs, subℕ}
-use lib.ListN.{length, set, take, drop, length-set, length-take, length-drop, take-append-drop}
+use lib.ListN.{length, getD, set, take, drop, length-set, length-take, length-drop, take-append-drop}
 use Rattle.ascii.specs.Class.{isDigit, all}
 use Rattle.ascii.proofs.Tests.{eqb-iff, below-at}
 use Rattle.ascii.proofs.Class.{digit-bounds, digit-inside, all-first, all-rest, all-drop}
@@ -16,7 +16,7 @@ use Rattle.forms.specs.declared.form.Fault.{Fault}
 use Rattle.forms.specs.declared.form.Fault.the-variants.{Fits}
 use Rattle.forms.proofs.OfDigits.{Digits, digits-fit, fit-digits}
 use Rattle.figures.specs.Total.{total, digitAt, number}
-use Rattle.figures.specs.Figures.{weightAt, counted, adds, totalBy, right, figure40, figure41, belgianPair, luhn, figure50}
+use Rattle.figures.specs.Figures.{counted, adds, totalBy, right, figure40, figure41, belgianPair, luhn, figure50}
 use Rattle.figures.specs.Inner.{figureBy, totalPasses}
 use Rattle.figures.specs.declared.kind.Kind.{Kind}
 use Rattle.figures.specs.declared.kind.Kind.the-variants.{Mod97}
@@ -25,7 +25,7 @@ use Rattle.figures.specs.Rules.{gln, mod11, mod97, seOrgnr, abn, abnTotal, allZ
 use Rattle.figures.specs.Changes.{exchanged}
 use Rattle.figures.proofs.Judging.{good-by}
 use Rattle.figures.proofs.Digits.{all-set, by-powers}
-use Rattle.figures.proofs.Adding.{adds-zero, total-small}
+use Rattle.figures.proofs.Adding.{adds-zero, total-small, placed-length, placed-at}
 use Rattle.figures.proofs.Zeros.{zeros41}
 use Rattle.figures.proofs.Shift.{total-set, total-exchanged}
 use Rattle.figures.proofs.Links.{join, total-reduced, leaves-ten, ten-leaves}
@@ -35,7 +35,7 @@ use Rattle.corrections.specs.declared.five.Five.{Five}
 use Rattle.corrections.specs.declared.five.Five.the-variants.{Gln, Norway, Belgium, Sweden, Australia}
 use Rattle.corrections.specs.Five.{row, ruleOf}
 use Rattle.corrections.specs.Corrections.{replaced}
-use Rattle.corrections.specs.Inner.{addsBy, Summed}
+use Rattle.corrections.specs.Inner.{addsBy, placesOf, Summed}
 
 -- ---- 0208: the number itself, and its first eight and last two digits
 
@@ -123,13 +123,22 @@ abbrev pub sharing : Five → ℕ → ℕ → ℕ
 sharing k j d = adds (addsBy k .fold) (addsBy k .weights) j d
 
 -- as the code asks for it, by a weight that it looked up
-pub shared : (k : Five) (f : Kind) (ws : List ℕ) (j w d : ℕ) {r : ℕ} → f ≡ row k .figure → ws ≡ addsBy k .weights → w ≡ weightAt ws j
-    → r ≡ counted (figureBy f .fold) (w * d) → r ≡ sharing k j d
-shared k f ws j w d g e q h = h ∙ ap (λ z. counted (figureBy z .fold) (w * d)) g ∙ ap (λ x. counted (addsBy k .fold) (x * d)) (q ∙ ap (λ l. weightAt l j) e)
+pub shared : (k : Five) (f : Kind) (ws : List ℕ) (j d : ℕ) {r : ℕ} → f ≡ row k .figure → ws ≡ placesOf k → j < 20
+    → r ≡ counted (figureBy f .fold) (getD ws j 0 * d) → r ≡ sharing k j d
+shared k f ws j d g e q h =
+    h
+    ∙ ap (λ z. counted (figureBy z .fold) (getD ws j 0 * d)) g
+    ∙ ap (λ x. counted (addsBy k .fold) (x * d)) (ap (λ l. getD l j 0) e ∙ placed-at 20 (addsBy k .weights) j q)
+
+pub places-20 : (k : Five) {ws : List ℕ} → ws ≡ placesOf k → length ws ≡ 20
+places-20 k e = ap length e ∙ placed-length 20 (addsBy k .weights)
 
 module _ (k : Five) (s : List ℕ) (sum : ℕ) (p : Summed k s sum) where
   pub number-digits : Digits (row k .least) (row k .most) s
   number-digits = digits-fit (row k .least) (row k .most) s (p .formed)
+
+  pub short-20 : length s ≤ 20
+  short-20 = omega (arith, number-digits .most, most-20 k)
 
   pub sum-small : sum ≤ 773094113280
   sum-small =

@@ -1,6 +1,5 @@
 -- Laws of completing and listing: what the code's total says (Checks, Exact), which figure completes a body (Completes), lists
--- made by counting (Areas, Members), one digit for each place (Fixes), the list is whole (Theorems), what is done (Finished), examples (Cases).
-mod Schemes
+-- made by counting (Areas, Members), one digit for each place (Fixes), the list is whole (Theorems), what is done (Finished).
 mod Outcomes
 mod Checks
 pub mod Completes
@@ -11,4 +10,3 @@ pub mod Fixes
 mod Rows
 pub mod Theorems
 pub mod Finished
-pub mod Cases

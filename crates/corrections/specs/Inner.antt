@@ -10,13 +10,17 @@ use Rattle.answer.specs.declared.reason.Reason.the-variants.{NoReason, Zero, No
 use Rattle.forms.specs.Form.{faultOf}
 use Rattle.forms.specs.declared.form.Fault.the-variants.{Fits}
 use Rattle.figures.specs.Figures.{Figure, totalBy}
-use Rattle.figures.specs.Inner.{figureBy}
+use Rattle.figures.specs.Inner.{figureBy, placed}
 use Rattle.corrections.specs.declared.five.Five.{Five}
 use Rattle.corrections.specs.Five.{row, numberForm}
 
 -- how the digits of a number add up
 abbrev pub addsBy : Five → Figure
 addsBy k = figureBy (row k .figure)
+
+-- the weights of its places, of which there are at most 20
+abbrev pub placesOf : Five → List ℕ
+placesOf k = placed 20 (addsBy k .weights)
 
 -- a number of the right form, and its total
 pub record Summed (k : Five) (s : List ℕ) (sum : ℕ) : Type 0 where

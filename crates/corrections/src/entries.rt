@@ -7,7 +7,7 @@ ghost use Rattle.corrections.specs.Five.{ruleOf};
 ghost use Rattle.ascii.specs.Area.{joined, Put};
 ghost use Rattle.corrections.specs.Corrections.{ifAccepted, fixesAt, replacements, exchanges, corrections};
 ghost use Rattle.corrections.specs.Listing.{roomFor};
-ghost use Rattle.corrections.specs.Inner.{addsBy, Summed};
+ghost use Rattle.corrections.specs.Inner.{placesOf, Summed};
 use super::five::Five;
 use super::found::accepts_exchanged;
 use super::found::digit_at;
@@ -24,7 +24,7 @@ fn put_fix(
     out: &mut [u8],
     at: usize,
 ) -> usize
-    requires { ⌜ now weights ≡ addsBy kind .weights ⌝ ∗ ⌜ Summed kind (now s) sum ⌝ ∗ ⌜ i < length (now s) ⌝ ∗ ⌜ at + length (now s) ≤ length (now out) ⌝ }
+    requires { ⌜ now weights ≡ placesOf kind ⌝ ∗ ⌜ Summed kind (now s) sum ⌝ ∗ ⌜ i < length (now s) ⌝ ∗ ⌜ at + length (now s) ≤ length (now out) ⌝ }
     ensures { λ r. ⌜ Put (length (now (s .entry))) (now (out .entry)) at (joined (fixesAt (ruleOf kind) (now (s .entry)) i)) r (now (out .exit)) ⌝ }
 {
     let d = digit_at(kind, weights, s, sum, i);
@@ -47,7 +47,7 @@ fn put_swap(
     out: &mut [u8],
     at: usize,
 ) -> usize
-    requires { ⌜ now weights ≡ addsBy kind .weights ⌝ ∗ ⌜ Summed kind (now s) sum ⌝ ∗ ⌜ i + 1 < length (now s) ⌝ ∗ ⌜ at + length (now s) ≤ length (now out) ⌝ }
+    requires { ⌜ now weights ≡ placesOf kind ⌝ ∗ ⌜ Summed kind (now s) sum ⌝ ∗ ⌜ i + 1 < length (now s) ⌝ ∗ ⌜ at + length (now s) ≤ length (now out) ⌝ }
     ensures { λ r. ⌜ Put (length (now (s .entry))) (now (out .entry)) at (joined (ifAccepted (ruleOf kind) (exchanged (now (s .entry)) i))) r (now (out .exit)) ⌝ }
 {
     if accepts_exchanged(kind, weights, s, sum, i) {
@@ -60,7 +60,7 @@ fn put_swap(
 
 // All replacements, from the area's start on; hands back where they end.
 fn put_replacements(kind: Five, weights: &[u32], s: &[u8], sum: u64, out: &mut [u8]) -> usize
-    requires { ⌜ now weights ≡ addsBy kind .weights ⌝ ∗ ⌜ Summed kind (now s) sum ⌝ ∗ ⌜ length (now s) * length (now s) ≤ length (now out) ⌝ }
+    requires { ⌜ now weights ≡ placesOf kind ⌝ ∗ ⌜ Summed kind (now s) sum ⌝ ∗ ⌜ length (now s) * length (now s) ≤ length (now out) ⌝ }
     ensures { λ r. ⌜ Put (length (now (s .entry)) * length (now (s .entry))) (now (out .entry)) 0 (joined (replacements (ruleOf kind) (now (s .entry)))) r (now (out .exit)) ⌝ }
 {
     let mut at = 0;
@@ -81,7 +81,7 @@ fn put_exchanges(
     out: &mut [u8],
     from: usize,
 ) -> usize
-    requires { ⌜ now weights ≡ addsBy kind .weights ⌝ ∗ ⌜ Summed kind (now s) sum ⌝ ∗ ⌜ from + (length (now s) - 1) * length (now s) ≤ length (now out) ⌝ }
+    requires { ⌜ now weights ≡ placesOf kind ⌝ ∗ ⌜ Summed kind (now s) sum ⌝ ∗ ⌜ from + (length (now s) - 1) * length (now s) ≤ length (now out) ⌝ }
     ensures { λ r. ⌜ Put ((length (now (s .entry)) - 1) * length (now (s .entry))) (now (out .entry)) from (joined (exchanges (ruleOf kind) (now (s .entry)))) r (now (out .exit)) ⌝ }
 {
     let mut at = from;
@@ -101,7 +101,7 @@ pub(crate) fn put_corrections(
     sum: u64,
     out: &mut [u8],
 ) -> usize
-    requires { ⌜ now weights ≡ addsBy kind .weights ⌝ ∗ ⌜ Summed kind (now s) sum ⌝ ∗ ⌜ roomFor (length (now s)) ≤ length (now out) ⌝ }
+    requires { ⌜ now weights ≡ placesOf kind ⌝ ∗ ⌜ Summed kind (now s) sum ⌝ ∗ ⌜ roomFor (length (now s)) ≤ length (now out) ⌝ }
     ensures { λ r. ⌜ Put (roomFor (length (now (s .entry)))) (now (out .entry)) 0 (joined (corrections (ruleOf kind) (now (s .entry)))) r (now (out .exit)) ⌝ }
 {
     let mid = put_replacements(kind, weights, s, sum, out);

@@ -2,6 +2,7 @@
 ghost use mathlib.Core.Path.{_≡_};
 ghost use Rattle.ascii.specs.Written.{sameBytes};
 ghost use Rattle.corrections.specs.Five.{row, ruleOf, fiveOf, schemeOf};
+use ascii::same_bytes;
 use figures::Kind;
 use forms::AUSTRALIAN;
 use forms::BELGIAN;
@@ -136,10 +137,8 @@ fn goes_by(kind: Five, scheme: &[u8]) -> bool
     let Scheme::Four(a, b, c, d) = rule.scheme() else {
         return scheme.len() == 0;
     };
-    if scheme.len() != 4 {
-        return false;
-    }
-    (scheme[0] == a) & (scheme[1] == b) & (scheme[2] == c) & (scheme[3] == d)
+    let bytes = [a, b, c, d];
+    same_bytes(scheme, &bytes)
 }
 
 pub fn five_of(scheme: &[u8]) -> Known

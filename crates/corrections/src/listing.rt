@@ -3,7 +3,6 @@ ghost use mathlib.Core.Path.{_≡_};
 ghost use lib.ListN.{length};
 ghost use Rattle.corrections.specs.Outcome.{Works};
 ghost use Rattle.corrections.specs.Listing.{numberFound, entriesOf, listedBy, listedFor, listing};
-ghost use Rattle.corrections.specs.Inner.{addsBy};
 use super::done::Done;
 use super::done::refused;
 use super::entries::put_corrections;
@@ -14,10 +13,10 @@ use answer::Reason;
 use figures::Sum;
 use figures::passes;
 use figures::sum_of;
+use figures::weights_of;
 
-// A number, by the weights of its digits.
-fn list_number(kind: Five, weights: &[u32], s: &[u8], out: &mut [u8]) -> Done
-    requires { ⌜ now weights ≡ addsBy kind .weights ⌝ }
+// A number, by the total of its digits.
+fn list_text(kind: Five, s: &[u8], out: &mut [u8]) -> Done
     ensures { λ r. ⌜ Works (listedBy (numberFound kind (now (s .entry))) (entriesOf kind (now (s .entry)) (length (now (out .entry))))) (now (out .entry)) r (now (out .exit)) ⌝ }
 {
     let row = kind.row();
@@ -32,23 +31,11 @@ fn list_number(kind: Five, weights: &[u32], s: &[u8], out: &mut [u8]) -> Done
     if out.len() < (2 * n - 1) * n {
         return refused(Reason::Room);
     }
-    let end = put_corrections(kind, weights, s, sum, out);
+    let weights = weights_of(figure);
+    let end = put_corrections(kind, &weights, s, sum, out);
     Done {
         reason: Reason::NoReason,
         count: end / n,
-    }
-}
-
-// The weights are bound here, once for a listing.
-fn list_text(kind: Five, s: &[u8], out: &mut [u8]) -> Done
-    ensures { λ r. ⌜ Works (listedBy (numberFound kind (now (s .entry))) (entriesOf kind (now (s .entry)) (length (now (out .entry))))) (now (out .entry)) r (now (out .exit)) ⌝ }
-{
-    match kind {
-        Five::Gln => list_number(kind, &figures::MOD10, s, out),
-        Five::Norway => list_number(kind, &figures::MOD11, s, out),
-        Five::Belgium => list_number(kind, &figures::MOD97, s, out),
-        Five::Sweden => list_number(kind, &figures::LUHN, s, out),
-        Five::Australia => list_number(kind, &figures::MOD89, s, out),
     }
 }
 

@@ -2,12 +2,14 @@
 use mathlib.Core.Path.{_≡_, refl, _∙_, sym, ap}
 use mathlib.Core.Bool.{Bool, true, false}
 use mathlib.Core.List.{List, [], _∷_, _++_}
-use Prim.Native.Nat.{ℕ, suc, _+_, _-_, _*_, _/_, _%_, _≤_, _<_}
+use Prim.Native.Nat.{ℕ, zero, suc, _+_, _-_, _*_, _/_, _%_, _≤_, _<_}
 use native.Mathlib.Nat.{add-zero, mul-le-mul, mod-lt}
 use native.Mathlib.Omega.{arith}
+use native.Mathlib.Decide.{ℕ-discrete}
 use borrow.Author.Tests.{leb-true}
 use lib.Dec.{leb, lit<}
-use lib.ListN.{length, getD}
+use lib.ListN.{length, getD, length-append, List·getD-append}
+use lib.Seq.{getD-append-add}
 use mir.Val.{boolByte}
 use Rattle.ascii.specs.Class.{isDigit, all}
 use Rattle.ascii.proofs.Tests.{false-true, below, below-at}
@@ -18,7 +20,7 @@ use Rattle.forms.specs.declared.form.Fault.the-variants.{Fits, Length, At}
 use Rattle.figures.specs.Total.{total}
 use Rattle.figures.specs.Figures.{Figure, weightAt, counted, adds, totalBy}
 use Rattle.figures.specs.Completing.{oneDigit}
-use Rattle.figures.specs.Inner.{figureBy, withZero, summed}
+use Rattle.figures.specs.Inner.{figureBy, placed, withZero, summed}
 use Rattle.figures.specs.declared.kind.Kind.{Kind}
 use Rattle.figures.specs.declared.kind.Kind.the-variants.{Mod10, Mod11, Mod97, Luhn, Mod89}
 use Rattle.figures.specs.declared.kind.Sum.the-variants.{Of, Unfit}
@@ -59,6 +61,26 @@ total-small kind (b ∷ s) h =
       share-small (figureBy kind .fold) (weightAt (figureBy kind .weights) (length s)) (b - 48) (omega (arith, weight-small kind (length s))) (omega arith),
       total-small kind s (all-rest isDigit b s h),
     )
+
+pub placed-length : (n : ℕ) (ws : List ℕ) → length (placed n ws) ≡ n
+unfolding placed
+placed-length zero ws = refl
+placed-length (suc n) ws = simp (length-append, placed-length n ws) (omega arith)
+
+pub placed-at : (n : ℕ) (ws : List ℕ) (k : ℕ) → k < n → getD (placed n ws) k 0 ≡ weightAt ws k
+unfolding placed
+placed-at zero ws k l = absurd (omega arith)
+placed-at (suc n) ws k l =
+    elim (ℕ-discrete k n) [
+      | yes q ↦ rw q (getD-end (placed n ws) (weightAt ws n) n (placed-length n ws))
+      | no ne ↦ List·getD-append (placed n ws) (weightAt ws n ∷ []) 0 k (rw (placed-length n ws) (less k n l ne)) ∙ placed-at n ws k (less k n l ne)
+    ]
+  where
+    less : (i j : ℕ) → i < suc j → (i ≡ j → ⊥) → i < j
+    less i j h ne = omega arith
+
+    getD-end : (l : List ℕ) (v i : ℕ) → length l ≡ i → getD (l ++ v ∷ []) i 0 ≡ v
+    getD-end l v i e = ap (λ j. getD (l ++ v ∷ []) j 0) (let z : i ≡ length l + 0 = omega arith in z) ∙ getD-append-add l (v ∷ []) 0 0
 
 -- ---- a check digit that is still to come
 

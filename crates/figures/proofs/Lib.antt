@@ -1,5 +1,5 @@
 -- Laws of check figures: what a finding shows (Judging), how a total changes (Shift), each rule's one total (Links), what is detected
--- (Detect), which figure completes a body (Completing), how large totals are (Range), document 01's examples (Cases); and of totals from
+-- (Detect), which figure completes a body (Completing), how large totals are (Range); and of totals from
 -- the left (Steps), parts of texts of digits (Digits), totals of 0 (Zeros), the totals of the code (Adding).
 pub mod Steps
 pub mod Judging
@@ -13,4 +13,3 @@ pub mod Detect
 pub mod Completing
 pub mod Adding
 pub mod Range
-pub mod Cases

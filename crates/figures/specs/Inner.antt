@@ -1,11 +1,11 @@
 -- What the code finds its answers from. No rule cites this; that it says what the rules say is proved.
 use mathlib.Core.Bool.{Bool, true, false, not, _&&_}
 use mathlib.Core.List.{List, [], _∷_, _++_}
-use Prim.Native.Nat.{ℕ, _/_, _%_}
+use Prim.Native.Nat.{ℕ, zero, suc, _/_, _%_}
 use lib.Dec.{eqb}
 use Rattle.forms.specs.declared.form.Fault.{Fault}
 use Rattle.forms.specs.declared.form.Fault.the-variants.{Fits, Length, At}
-use Rattle.figures.specs.Figures.{Figure, figure, figure40, figure41, belgianPair, luhn, figure50}
+use Rattle.figures.specs.Figures.{Figure, weightAt, figure, figure40, figure41, belgianPair, luhn, figure50}
 use Rattle.figures.specs.Completing.{oneDigit, complement, abnPair}
 use Rattle.figures.specs.declared.kind.Kind.{Kind}
 use Rattle.figures.specs.declared.kind.Kind.the-variants.{Mod10, Mod11, Mod97, Luhn, Mod89}
@@ -24,6 +24,11 @@ figureBy Mod11 = figure41
 figureBy Mod97 = figure false powers 97
 figureBy Luhn = luhn
 figureBy Mod89 = figure50
+
+-- the weights of the last n places
+unfoldable pub placed : ℕ → List ℕ → List ℕ
+placed zero ws = []
+placed (suc n) ws = placed n ws ++ (weightAt ws n ∷ [])
 
 -- whether a number of the right form is accepted, by its total
 abbrev pub totalPasses : Kind → ℕ → Bool

@@ -1,4 +1,4 @@
--- The rules with a check figure, as document 01 words them. A rule reads the bytes of a text.
+-- The rules with a check figure (docs/RULES.md, Rule 40 .. Rule 50). A rule reads the bytes of a text.
 use mathlib.Core.Bool.{Bool}
 use mathlib.Core.List.{List}
 use Prim.Native.Nat.{ℕ, _%_}

@@ -8,7 +8,7 @@ ghost use Rattle.forms.specs.Form.{faultOf};
 ghost use Rattle.forms.specs.Table.{digits};
 ghost use Rattle.figures.specs.Total.{total};
 ghost use Rattle.figures.specs.Figures.{weightAt, counted, adds, totalBy, belgianPair};
-ghost use Rattle.figures.specs.Inner.{figureBy, totalPasses, lacking, summed, withZero};
+ghost use Rattle.figures.specs.Inner.{figureBy, totalPasses, lacking, summed, withZero, placed};
 use forms::Fault;
 use forms::digits;
 use forms::is_fit;
@@ -35,12 +35,12 @@ pub(crate) const GLN_BEFORE: u32 = 3;
 
 pub(crate) const LUHN_BEFORE: u32 = 2;
 
-pub const MOD10: [u32; 2] = [LAST, GLN_BEFORE];
+pub(crate) const MOD10: [u32; 2] = [LAST, GLN_BEFORE];
 
-pub const MOD11: [u32; 9] = [1, 2, 3, 4, 5, 6, 7, 2, 3];
+pub(crate) const MOD11: [u32; 9] = [1, 2, 3, 4, 5, 6, 7, 2, 3];
 
 // The powers of ten: the total is the number itself.
-pub const MOD97: [u32; 10] = [
+pub(crate) const MOD97: [u32; 10] = [
     1,
     10,
     100,
@@ -53,9 +53,9 @@ pub const MOD97: [u32; 10] = [
     1000000000,
 ];
 
-pub const LUHN: [u32; 2] = [LAST, LUHN_BEFORE];
+pub(crate) const LUHN: [u32; 2] = [LAST, LUHN_BEFORE];
 
-pub const MOD89: [u32; 11] = [19, 17, 15, 13, 11, 9, 7, 5, 3, 1, 10];
+pub(crate) const MOD89: [u32; 11] = [19, 17, 15, 13, 11, 9, 7, 5, 3, 1, 10];
 
 // The moduli.
 pub(crate) const TEN: u64 = 10;
@@ -65,7 +65,7 @@ pub(crate) const ELEVEN: u64 = 11;
 pub(crate) const ABN_MODULUS: u64 = 89;
 
 // The weight of a digit with k digits to its right: the table's, over and over.
-pub fn weight(weights: &[u32], k: usize) -> u32
+fn weight(weights: &[u32], k: usize) -> u32
     ensures { λ r. ⌜ r ≡ weightAt (now (weights .entry)) k ⌝ }
 {
     let n = weights.len();
@@ -81,6 +81,32 @@ pub fn weight(weights: &[u32], k: usize) -> u32
     }
     let round = k % n;
     weights[round]
+}
+
+// The weights of the last 20 places, by a table.
+fn placed(weights: &[u32]) -> [u32; 20]
+    ensures { λ r. ⌜ r ≡ placed 20 (now (weights .entry)) ⌝ }
+{
+    let mut places = [0u32; 20];
+    let mut k: usize = 0;
+    while k < 20 {
+        places[k] = weight(weights, k);
+        k += 1;
+    }
+    places
+}
+
+// The weights of the last 20 places of a number.
+pub fn weights_of(kind: Kind) -> [u32; 20]
+    ensures { λ r. ⌜ r ≡ placed 20 (figureBy kind .weights) ⌝ }
+{
+    match kind {
+        Kind::Mod10 => placed(&MOD10),
+        Kind::Mod11 => placed(&MOD11),
+        Kind::Mod97 => placed(&MOD97),
+        Kind::Luhn => placed(&LUHN),
+        Kind::Mod89 => placed(&MOD89),
+    }
 }
 
 // Whether the digits of a product are added.
@@ -107,10 +133,10 @@ pub fn share(kind: Kind, w: u32, d: u8) -> u64
     p
 }
 
-// The total of digits, with `after` zeros behind them.
+// The total of digits by their figure's table, with `after` zeros behind them.
 fn added(kind: Kind, weights: &[u32], s: &[u8], after: usize) -> u64
-    requires { ⌜ all isDigit (now s) ≡ true ⌝ ∗ ⌜ length (now s) ≤ 255 ⌝ ∗ ⌜ after ≤ 1 ⌝ }
-    ensures { λ r. ⌜ r ≡ total (λ j d. adds (figureBy kind .fold) (now (weights .entry)) (j + after) d) (now (s .entry)) ⌝ }
+    requires { ⌜ now weights ≡ figureBy kind .weights ⌝ ∗ ⌜ all isDigit (now s) ≡ true ⌝ ∗ ⌜ length (now s) ≤ 255 ⌝ ∗ ⌜ after ≤ 1 ⌝ }
+    ensures { λ r. ⌜ r ≡ total (λ j d. adds (figureBy kind .fold) (figureBy kind .weights) (j + after) d) (now (s .entry)) ⌝ }
 {
     let n = s.len();
     let mut sum: u64 = 0;
@@ -123,7 +149,6 @@ fn added(kind: Kind, weights: &[u32], s: &[u8], after: usize) -> u64
     sum
 }
 
-// By the table of a figure.
 fn added_by(kind: Kind, s: &[u8], after: usize) -> u64
     requires { ⌜ all isDigit (now s) ≡ true ⌝ ∗ ⌜ length (now s) ≤ 255 ⌝ ∗ ⌜ after ≤ 1 ⌝ }
     ensures { λ r. ⌜ r ≡ total (λ j d. adds (figureBy kind .fold) (figureBy kind .weights) (j + after) d) (now (s .entry)) ⌝ }

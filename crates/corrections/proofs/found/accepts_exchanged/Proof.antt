@@ -1,7 +1,7 @@
 -- `corrections::found::accepts_exchanged` meets its contract.
 use mathlib.Core.Path.{_≡_, _∙_, ap}
 use denote.Ref.{now}
-use Prim.Native.Nat.{ℕ, _+_, _-_, _*_, _≤_}
+use Prim.Native.Nat.{ℕ, _+_, _-_, _*_, _≤_, _<_}
 use lib.ListN.{length, getD}
 use Rattle.ascii.specs.Class.{isDigit}
 use Rattle.ascii.proofs.Class.{all-at, digit-bounds}
@@ -9,7 +9,7 @@ use Rattle.figures.specs.Total.{digitAt}
 use Rattle.figures.specs.Figures.{counted}
 use Rattle.figures.specs.Inner.{figureBy, totalPasses}
 use Rattle.figures.proofs.Adding.{share-small}
-use Rattle.corrections.proofs.Exact.{sharing, shared, number-digits, sum-small, shares-within, exchanged-test}
+use Rattle.corrections.proofs.Exact.{sharing, shared, places-20, number-digits, short-20, sum-small, shares-within, exchanged-test}
 use native.Mathlib.Omega.{arith}
 use borrow.Author.Needs.{needs}
 use Rattle.corrections.proofs.found.accepts_exchanged.Statement.{statement}
@@ -22,34 +22,33 @@ digit a i l =
     let d = digit-bounds (getD s i 0) (all-at isDigit s i (number-digits (a .args .kind) s (a .args .sum) (a .pre .1 .0) .digit) (omega (arith, a .pre .1 .1))) in
     (omega arith, omega arith)
 
-abbrev st : tie.After-weight2 → tie.Start
+abbrev st : tie.After-shared-slice-known6 → tie.Start
 st t = t .before .before .before .before .before .before .before
 
+short : (a : tie.Start) → (length (now (a .args .s)) ≤ 20) × (length (now (a .args .weights)) ≡ 20) × (a .args .i + 1 < length (now (a .args .s)))
+short a = (short-20 (a .args .kind) (now (a .args .s)) (a .args .sum) (a .pre .1 .0), places-20 (a .args .kind) (a .pre .0), a .pre .1 .1)
+
 -- what a digit adds at the two places, and how much that is at most
-module _ (t : tie.After-weight2) (d r : ℕ) where
-  far : r ≡ counted (figureBy (t .before .before .before .before .figure .result) .fold) (t .before .weight .result * d) → r ≡ sharing (st t .args .kind) (length (now (st t .args .s)) - 1 - st t .args .i) d
-  far h =
-      shared (st t .args .kind) (t .before .before .before .before .figure .result) (now (st t .args .weights)) (length (now (st t .args .s)) - 1 - st t .args .i) (t .before .weight .result) d
-      (t .before .before .before .before .figure .ensures) (st t .pre .0) (t .before .weight .ensures) h
+module _ (t : tie.After-shared-slice-known6) (d r : ℕ) where
+  far : r ≡ counted (figureBy (t .before .before .before .before .figure .result) .fold) (getD (now (st t .args .weights)) (length (now (st t .args .s)) - 1 - st t .args .i) 0 * d) → r ≡ sharing (st t .args .kind) (length (now (st t .args .s)) - 1 - st t .args .i) d
+  far h = shared (st t .args .kind) (t .before .before .before .before .figure .result) (now (st t .args .weights)) (length (now (st t .args .s)) - 1 - st t .args .i) d (t .before .before .before .before .figure .ensures) (st t .pre .0) (omega (arith, short (st t))) h
 
-  near : r ≡ counted (figureBy (t .before .before .before .before .figure .result) .fold) (t .weight2 .result * d) → r ≡ sharing (st t .args .kind) (length (now (st t .args .s)) - 1 - (st t .args .i + 1)) d
-  near h =
-      shared (st t .args .kind) (t .before .before .before .before .figure .result) (now (st t .args .weights)) (length (now (st t .args .s)) - 1 - (st t .args .i + 1)) (t .weight2 .result) d
-      (t .before .before .before .before .figure .ensures) (st t .pre .0) (t .weight2 .ensures) h
+  far-small : r ≡ counted (figureBy (t .before .before .before .before .figure .result) .fold) (getD (now (st t .args .weights)) (length (now (st t .args .s)) - 1 - st t .args .i) 0 * d) → d ≤ 9 → r ≤ 38654705664
+  far-small h l = rw h (share-small (figureBy (t .before .before .before .before .figure .result) .fold) (getD (now (st t .args .weights)) (length (now (st t .args .s)) - 1 - st t .args .i) 0) d (omega (arith, t .shared-slice-known6 .given (length (now (st t .args .s)) - 1 - st t .args .i))) l)
 
-  far-small : r ≡ counted (figureBy (t .before .before .before .before .figure .result) .fold) (t .before .weight .result * d) → d ≤ 9 → r ≤ 38654705664
-  far-small h l = rw h (share-small (figureBy (t .before .before .before .before .figure .result) .fold) (t .before .weight .result) d (omega arith) l)
+  near : r ≡ counted (figureBy (t .before .before .before .before .figure .result) .fold) (getD (now (st t .args .weights)) (length (now (st t .args .s)) - 1 - (st t .args .i + 1)) 0 * d) → r ≡ sharing (st t .args .kind) (length (now (st t .args .s)) - 1 - (st t .args .i + 1)) d
+  near h = shared (st t .args .kind) (t .before .before .before .before .figure .result) (now (st t .args .weights)) (length (now (st t .args .s)) - 1 - (st t .args .i + 1)) d (t .before .before .before .before .figure .ensures) (st t .pre .0) (omega (arith, short (st t))) h
 
-  near-small : r ≡ counted (figureBy (t .before .before .before .before .figure .result) .fold) (t .weight2 .result * d) → d ≤ 9 → r ≤ 38654705664
-  near-small h l = rw h (share-small (figureBy (t .before .before .before .before .figure .result) .fold) (t .weight2 .result) d (omega arith) l)
+  near-small : r ≡ counted (figureBy (t .before .before .before .before .figure .result) .fold) (getD (now (st t .args .weights)) (length (now (st t .args .s)) - 1 - (st t .args .i + 1)) 0 * d) → d ≤ 9 → r ≤ 38654705664
+  near-small h l = rw h (share-small (figureBy (t .before .before .before .before .figure .result) .fold) (getD (now (st t .args .weights)) (length (now (st t .args .s)) - 1 - (st t .args .i + 1)) 0) d (omega (arith, t .shared-slice-known6 .given (length (now (st t .args .s)) - 1 - (st t .args .i + 1)))) l)
 
-abbrev at : tie.After-share4 → tie.After-weight2
+abbrev at : tie.After-share4 → tie.After-shared-slice-known6
 at t = t .before .before .before .before
 
-abbrev one : tie.After-weight2 → ℕ
+abbrev one : tie.After-shared-slice-known6 → ℕ
 one t = digitAt (now (st t .args .s)) (st t .args .i)
 
-abbrev two : tie.After-weight2 → ℕ
+abbrev two : tie.After-shared-slice-known6 → ℕ
 two t = digitAt (now (st t .args .s)) (st t .args .i + 1)
 
 small-new : (t : tie.After-share4) → t .before .share3 .result + t .share4 .result ≤ 77309411328
@@ -78,26 +77,32 @@ shared-slice-read-b c = search needs
 sub-b : tie.Need-sub-b
 sub-b c = digit (c .before .before .before .before .before) (c .before .before .before .before .before .args .i + 1) (omega arith) .0
 
-sub-weight : tie.Need-sub-weight
-sub-weight c = search needs
+sub-j : tie.Need-sub-j
+sub-j c = search needs
 
-sub-weight-2 : tie.Need-sub-weight-2
-sub-weight-2 c = search needs
+sub-j-2 : tie.Need-sub-j-2
+sub-j-2 c = search needs
 
-weight-requires : tie.Need-weight-requires
-weight-requires c κs = search needs
+sub-k : tie.Need-sub-k
+sub-k c = search needs
 
-sub-weight-3 : tie.Need-sub-weight-3
-sub-weight-3 c = search needs
+add-k : tie.Need-add-k
+add-k c = search needs
 
-add-weight : tie.Need-add-weight
-add-weight c = search needs
+sub-k-2 : tie.Need-sub-k-2
+sub-k-2 c = search needs
 
-sub-weight-4 : tie.Need-sub-weight-4
-sub-weight-4 c = search needs
+mul-v : tie.Need-mul-v
+mul-v c = omega (arith, short (c .before .before .before .before .before))
 
-weight-requires-2 : tie.Need-weight-requires-2
-weight-requires-2 c κs = search needs
+shared-slice-read-v : tie.Need-shared-slice-read-v
+shared-slice-read-v c = omega (arith, short (c .before .before .before .before .before .before))
+
+mul-w : tie.Need-mul-w
+mul-w c = omega (arith, short (c .before .before .before .before .before .before))
+
+shared-slice-read-w : tie.Need-shared-slice-read-w
+shared-slice-read-w c = omega (arith, short (c .before .before .before .before .before .before .before))
 
 share-requires : tie.Need-share-requires
 share-requires c κs = search needs
@@ -149,4 +154,4 @@ returns c =
     (far t (one t) _ (u .before .before .before .share .ensures)) (near t (two t) _ (u .before .before .share2 .ensures)) (far t (two t) _ (u .before .share3 .ensures)) (near t (one t) _ (u .share4 .ensures))
 
 pub accepts-exchanged-spec : {M : Type 1} → statement M
-accepts-exchanged-spec = tie.close (tie.spec figure-requires shared-slice-read-a sub-a add-b shared-slice-read-b sub-b sub-weight sub-weight-2 weight-requires sub-weight-3 add-weight sub-weight-4 weight-requires-2 share-requires share-requires-2 add-was share-requires-3 share-requires-4 add-new add-passes sub-passes passes-requires returns)
+accepts-exchanged-spec = tie.close (tie.spec figure-requires shared-slice-read-a sub-a add-b shared-slice-read-b sub-b sub-j sub-j-2 sub-k add-k sub-k-2 mul-v shared-slice-read-v mul-w shared-slice-read-w share-requires share-requires-2 add-was share-requires-3 share-requires-4 add-new add-passes sub-passes passes-requires returns)

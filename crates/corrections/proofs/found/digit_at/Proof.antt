@@ -14,7 +14,7 @@ use Rattle.figures.proofs.Adding.{share-small}
 use Rattle.rules.specs.Finding.{accepts}
 use Rattle.corrections.specs.Five.{ruleOf}
 use Rattle.corrections.specs.Corrections.{replaced}
-use Rattle.corrections.proofs.Exact.{sharing, shared, number-digits, sum-small, share-within, replaced-test}
+use Rattle.corrections.proofs.Exact.{sharing, shared, places-20, number-digits, short-20, sum-small, share-within, replaced-test}
 use Rattle.corrections.proofs.Fixes.{fixes-hit, fixes-none}
 use native.Mathlib.Omega.{arith}
 use borrow.Author.Needs.{needs}
@@ -22,10 +22,10 @@ use Rattle.corrections.proofs.found.digit_at.Statement.{statement}
 use Rattle.corrections.proofs.found.digit_at.Tie as tie
 
 abbrev Inv-loop : tie.InvT-loop
-Inv-loop weights s sum i figure w base d₀ d = (d ≤ 10) × ((x : ℕ) → x < d → totalPasses figure (base + counted (figureBy figure .fold) (w * x)) ≡ false)
+Inv-loop weights s sum i figure k w base d₀ d = (d ≤ 10) × ((x : ℕ) → x < d → totalPasses figure (base + counted (figureBy figure .fold) (w * x)) ≡ false)
 
 abbrev μ-loop : tie.MeasureT-loop
-μ-loop weights s sum i figure w base d₀ d = 10 - d
+μ-loop weights s sum i figure k w base d₀ d = 10 - d
 
 abbrev st : tie.After-share Inv-loop μ-loop → tie.Start Inv-loop μ-loop
 st t = t .before .before .before .before .before .before
@@ -34,15 +34,18 @@ st t = t .before .before .before .before .before .before
 abbrev place : tie.After-share Inv-loop μ-loop → ℕ
 place t = length (now (st t .args .s)) - 1 - st t .args .i
 
+place-20 : (t : tie.After-share Inv-loop μ-loop) → place t < 20
+place-20 t = omega (arith, short-20 (st t .args .kind) (now (st t .args .s)) (st t .args .sum) (st t .pre .1 .0), st t .pre .1 .1)
+
 was-is : (t : tie.After-share Inv-loop μ-loop) → t .share .result ≡ sharing (st t .args .kind) (place t) (digitAt (now (st t .args .s)) (st t .args .i))
 was-is t =
-    shared (st t .args .kind) (t .before .before .before .figure .result) (now (st t .args .weights)) (place t) (t .before .before .weight .result) (digitAt (now (st t .args .s)) (st t .args .i))
-    (t .before .before .before .figure .ensures) (st t .pre .0) (t .before .before .weight .ensures) (t .share .ensures)
+    shared (st t .args .kind) (t .before .before .before .figure .result) (now (st t .args .weights)) (place t) (digitAt (now (st t .args .s)) (st t .args .i))
+    (t .before .before .before .figure .ensures) (st t .pre .0) (place-20 t) (t .share .ensures)
 
 -- what the code tests is what the rule says
 module _ (u : tie.After-share Inv-loop μ-loop) (d : ℕ) where
   abbrev new : ℕ
-  new = counted (figureBy (u .before .before .before .figure .result) .fold) (u .before .before .weight .result * d)
+  new = counted (figureBy (u .before .before .before .figure .result) .fold) (getD (now (st u .args .weights)) (place u) 0 * d)
 
   test : d < 10
       → totalPasses (u .before .before .before .figure .result) (st u .args .sum - u .share .result + new) ≡ accepts (ruleOf (st u .args .kind)) (replaced (now (st u .args .s)) (st u .args .i) d)
@@ -50,7 +53,7 @@ module _ (u : tie.After-share Inv-loop μ-loop) (d : ℕ) where
       let f = u .before .before .before .figure in
       ap (λ x. totalPasses x (st u .args .sum - u .share .result + new)) (f .ensures)
       ∙ replaced-test (st u .args .kind) (now (st u .args .s)) (st u .args .sum) (st u .pre .1 .0) (st u .args .i) (u .share .result) (st u .pre .1 .1) (was-is u) d new l
-      (shared (st u .args .kind) (f .result) (now (st u .args .weights)) (place u) (u .before .before .weight .result) d (f .ensures) (st u .pre .0) (u .before .before .weight .ensures) refl)
+      (shared (st u .args .kind) (f .result) (now (st u .args .weights)) (place u) d (f .ensures) (st u .pre .0) (place-20 u) refl)
 
 -- what the loop's test found
 found : (t : tie.After-passes Inv-loop μ-loop)
@@ -62,14 +65,21 @@ found t =
 figure-requires : tie.Need-figure-requires Inv-loop μ-loop
 figure-requires c κs = search needs
 
-sub-weight : tie.Need-sub-weight Inv-loop μ-loop
-sub-weight c = search needs
+sub-k : tie.Need-sub-k Inv-loop μ-loop
+sub-k c = search needs
 
-sub-weight-2 : tie.Need-sub-weight-2 Inv-loop μ-loop
-sub-weight-2 c = search needs
+sub-k-2 : tie.Need-sub-k-2 Inv-loop μ-loop
+sub-k-2 c = search needs
 
-weight-requires : tie.Need-weight-requires Inv-loop μ-loop
-weight-requires c κs = search needs
+mul-w : tie.Need-mul-w Inv-loop μ-loop
+mul-w c =
+    let a = c .before .before .before in
+    omega (arith, short-20 (a .args .kind) (now (a .args .s)) (a .args .sum) (a .pre .1 .0))
+
+shared-slice-read-w : tie.Need-shared-slice-read-w Inv-loop μ-loop
+shared-slice-read-w c =
+    let a = c .before .before .before .before in
+    omega (arith, short-20 (a .args .kind) (now (a .args .s)) (a .args .sum) (a .pre .1 .0), places-20 (a .args .kind) (a .pre .0), a .pre .1 .1)
 
 shared-slice-read-share : tie.Need-shared-slice-read-share Inv-loop μ-loop
 shared-slice-read-share c = search needs
@@ -95,7 +105,7 @@ share-requires-2 c κs = search needs
 add-passes : tie.Need-add-passes Inv-loop μ-loop
 add-passes c =
     let u = c .before .before .before in
-    let b : c .share2 .result ≤ 38654705664 = rw (c .share2 .ensures) (share-small (figureBy (u .before .before .before .figure .result) .fold) (u .before .before .weight .result) (c .before .before .loop .d) (omega arith) (omega arith)) in
+    let b : c .share2 .result ≤ 38654705664 = rw (c .share2 .ensures) (share-small (figureBy (u .before .before .before .figure .result) .fold) (getD (now (st u .args .weights)) (place u) 0) (c .before .before .loop .d) (omega (arith, u .before .before .shared-slice-known3 .given (place u))) (omega arith)) in
     omega (arith, sum-small (st u .args .kind) (now (st u .args .s)) (st u .args .sum) (st u .pre .1 .0))
 
 passes-requires : tie.Need-passes-requires Inv-loop μ-loop
@@ -123,4 +133,4 @@ returns-2 c =
     fixes-none (st u .args .kind) (now (st u .args .s)) (st u .args .i) _ (c .loop-test .left) (λ x h. sym (test u x h) ∙ c .before .loop .inv .1 x (omega arith))
 
 pub digit-at-spec : {M : Type 1} → statement M
-digit-at-spec = tie.close (tie.spec Inv-loop μ-loop figure-requires sub-weight sub-weight-2 weight-requires shared-slice-read-share sub-share share-requires sub-base loop-holds share-requires-2 add-passes passes-requires returns add-d loop-less loop-again returns-2)
+digit-at-spec = tie.close (tie.spec Inv-loop μ-loop figure-requires sub-k sub-k-2 mul-w shared-slice-read-w shared-slice-read-share sub-share share-requires sub-base loop-holds share-requires-2 add-passes passes-requires returns add-d loop-less loop-again returns-2)

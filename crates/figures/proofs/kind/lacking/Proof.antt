@@ -50,21 +50,4 @@ returns-5 : tie.Need-returns-5
 returns-5 c = rw (c .enum-told5 .given .1) refl
 
 pub lacking-spec : {M : Type 1} → statement M
-lacking-spec =
-    tie.close
-    (tie.spec
-    enum-told
-    sub-result
-    enum-told-2
-    sub-result-2
-    enum-told-3
-    belgian-pair-requires
-    enum-told-4
-    sub-result-3
-    enum-told-5
-    sub-result-4
-    returns
-    returns-2
-    returns-3
-    returns-4
-    returns-5)
+lacking-spec = tie.close (tie.spec enum-told sub-result enum-told-2 sub-result-2 enum-told-3 belgian-pair-requires enum-told-4 sub-result-3 enum-told-5 sub-result-4 returns returns-2 returns-3 returns-4 returns-5)

@@ -39,17 +39,4 @@ returns-5 : tie.Need-returns-5
 returns-5 c = rw (c .enum-told5 .given .1) refl
 
 pub passes-spec : {M : Type 1} → statement M
-passes-spec =
-    tie.close
-    (tie.spec
-    enum-told
-    enum-told-2
-    enum-told-3
-    belgian-pair-requires
-    enum-told-4
-    enum-told-5
-    returns
-    returns-2
-    returns-3
-    returns-4
-    returns-5)
+passes-spec = tie.close (tie.spec enum-told enum-told-2 enum-told-3 belgian-pair-requires enum-told-4 enum-told-5 returns returns-2 returns-3 returns-4 returns-5)

@@ -50,17 +50,4 @@ returns-4 : tie.Need-returns-4
 returns-4 c = search needs
 
 pub weight-spec : {M : Type 1} → statement M
-weight-spec =
-    tie.close
-    (tie.spec
-    mul-result
-    shared-slice-read-result
-    returns
-    mul-result-2
-    shared-slice-read-result-2
-    returns-2
-    returns-3
-    rem-round
-    mul-result-3
-    shared-slice-read-result-3
-    returns-4)
+weight-spec = tie.close (tie.spec mul-result shared-slice-read-result returns mul-result-2 shared-slice-read-result-2 returns-2 returns-3 rem-round mul-result-3 shared-slice-read-result-3 returns-4)

@@ -29,13 +29,4 @@ returns-2 : tie.Need-returns-2
 returns-2 c = search needs
 
 pub gln-spec : {M : Type 1} → statement M
-gln-spec =
-    tie.close
-    (tie.spec
-    sub-gln-of
-    part-gln-of-start
-    part-gln-of-end
-    gln-of-requires
-    returns
-    gln-of-requires-2
-    returns-2)
+gln-spec = tie.close (tie.spec sub-gln-of part-gln-of-start part-gln-of-end gln-of-requires returns gln-of-requires-2 returns-2)

@@ -61,14 +61,4 @@ unfolding mod11
 returns-3 c = unfitted-zero _ (c .before .is-fit .ensures) (c .before .before .n-digits .ensures) _ _ (c .if1 .left)
 
 pub mod11-spec : {M : Type 1} → statement M
-mod11-spec =
-    tie.close
-    (tie.spec
-    n-digits-requires
-    is-fit-requires
-    slice-aggregate-weighted
-    weighted-requires
-    returns
-    cast-decided decided-requires
-    returns-2
-    returns-3)
+mod11-spec = tie.close (tie.spec n-digits-requires is-fit-requires slice-aggregate-weighted weighted-requires returns cast-decided decided-requires returns-2 returns-3)

@@ -96,24 +96,4 @@ unfolding mod97
 returns-2 c = unfitted _ (c .before .is-fit .ensures) (c .before .before .n-digits .ensures) _ (c .if1 .left)
 
 pub mod97-0208-spec : {M : Type 1} → statement M
-mod97-0208-spec =
-    tie.close
-    (tie.spec
-    n-digits-requires
-    is-fit-requires
-    sub-weighted
-    part-weighted-start
-    part-weighted-end
-    slice-aggregate-weighted
-    weighted-requires
-    sub-weighted-2
-    part-weighted-start-2
-    part-weighted-end-2
-    slice-aggregate-weighted-2
-    weighted-requires-2
-    cast-decided
-    cast-belgian-pair
-    belgian-pair-requires
-    decided-requires
-    returns
-    returns-2)
+mod97-0208-spec = tie.close (tie.spec n-digits-requires is-fit-requires sub-weighted part-weighted-start part-weighted-end slice-aggregate-weighted weighted-requires sub-weighted-2 part-weighted-start-2 part-weighted-end-2 slice-aggregate-weighted-2 weighted-requires-2 cast-decided cast-belgian-pair belgian-pair-requires decided-requires returns returns-2)

@@ -58,15 +58,4 @@ unfolding partitaIva
 returns-2 c = unfitted _ (c .before .is-fit .ensures) (c .before .before .italian .ensures) _ (c .if1 .left)
 
 pub partita-iva-spec : {M : Type 1} → statement M
-partita-iva-spec =
-    tie.close
-    (tie.spec
-    italian-requires
-    is-fit-requires
-    sub-alternating
-    part-alternating-start
-    part-alternating-end
-    alternating-requires
-    cast-decided decided-requires
-    returns
-    returns-2)
+partita-iva-spec = tie.close (tie.spec italian-requires is-fit-requires sub-alternating part-alternating-start part-alternating-end alternating-requires cast-decided decided-requires returns returns-2)

@@ -82,21 +82,4 @@ returns c =
     ∙ ap (λ t. pos 10 *ℤ (pos (getD s 0 0 - 48) -ℤ pos 1) +ℤ pos t) (rw (cut 1 11 s (a .pre .1)) at (c .before .weighted .ensures .0))
 
 pub abn-total-spec : {M : Type 1} → statement M
-abn-total-spec =
-    tie.close
-    (tie.spec
-    sub-weighted
-    part-weighted-start
-    part-weighted-end
-    slice-aggregate-weighted
-    weighted-requires
-    shared-slice-read-digit
-    sub-digit
-    cast-first
-    sub-first
-    array-read-result
-    cast-result
-    mul-result
-    cast-result-2
-    add-result
-    returns)
+abn-total-spec = tie.close (tie.spec sub-weighted part-weighted-start part-weighted-end slice-aggregate-weighted weighted-requires shared-slice-read-digit sub-digit cast-first sub-first array-read-result cast-result mul-result cast-result-2 add-result returns)

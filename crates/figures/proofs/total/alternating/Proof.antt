@@ -76,21 +76,4 @@ returns c =
     omega (arith, end (adds (a .fold) (a .last ∷ a .before ∷ [])) (a .s .now) (c .before .loop .i) (omega arith))
 
 pub alternating-spec : {M : Type 1} → statement M
-alternating-spec =
-    tie.close
-    (tie.spec
-    Inv-loop
-    μ-loop
-    lead-requires
-    loop-holds
-    add-next
-    shared-slice-read-part
-    part-requires
-    shared-slice-read-part-2
-    part-requires-2
-    add-sum
-    add-sum-2
-    add-i
-    loop-less
-    loop-again
-    returns)
+alternating-spec = tie.close (tie.spec Inv-loop μ-loop lead-requires loop-holds add-next shared-slice-read-part part-requires shared-slice-read-part-2 part-requires-2 add-sum add-sum-2 add-i loop-less loop-again returns)

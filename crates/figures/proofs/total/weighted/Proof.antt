@@ -90,20 +90,4 @@ returns c =
     (omega (arith, end (adds false (a .weights .now)) (a .s .now) (c .before .loop .i) (omega arith)), omega arith)
 
 pub weighted-spec : {M : Type 1} → statement M
-weighted-spec =
-    tie.close
-    (tie.spec
-    Inv-loop
-    μ-loop
-    loop-holds
-    sub-k
-    sub-k-2
-    mul-part
-    shared-slice-read-part
-    shared-slice-read-part-2
-    part-requires
-    add-sum
-    add-i
-    loop-less
-    loop-again
-    returns)
+weighted-spec = tie.close (tie.spec Inv-loop μ-loop loop-holds sub-k sub-k-2 mul-part shared-slice-read-part shared-slice-read-part-2 part-requires add-sum add-i loop-less loop-again returns)

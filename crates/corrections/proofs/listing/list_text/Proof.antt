@@ -1,4 +1,4 @@
--- `corrections::listing::list_number` meets its contract.
+-- `corrections::listing::list_text` meets its contract.
 use mathlib.Core.Path.{_≡_, _∙_, sym, ap}
 use mathlib.Core.Bool.{Bool}
 use Prim.Native.Nat.{ℕ, _≤_}
@@ -8,7 +8,7 @@ use Rattle.forms.specs.Form.{faultOf}
 use Rattle.forms.specs.Table.{digits}
 use Rattle.figures.specs.declared.kind.Sum.{Sum}
 use Rattle.figures.specs.Figures.{totalBy}
-use Rattle.figures.specs.Inner.{figureBy, totalPasses, summed}
+use Rattle.figures.specs.Inner.{figureBy, placed, totalPasses, summed}
 use Rattle.figures.proofs.Adding.{sum-means, unfit-means}
 use Rattle.rules.specs.Finding.{accepts}
 use Rattle.corrections.specs.declared.five.Row.{Row}
@@ -21,12 +21,12 @@ use Rattle.corrections.proofs.Outcomes.{works-refused, room-short}
 use Rattle.corrections.proofs.Rows.{listed-unfit, listed-good, listed-wrong, entries-done}
 use native.Mathlib.Omega.{arith}
 use borrow.Author.Needs.{needs}
-use Rattle.corrections.proofs.listing.list_number.Statement.{statement}
-use Rattle.corrections.proofs.listing.list_number.Tie as tie
+use Rattle.corrections.proofs.listing.list_text.Statement.{statement}
+use Rattle.corrections.proofs.listing.list_text.Tie as tie
 
 -- the sum that was asked for, by the row of the scheme
 abbrev st : tie.After-sum-of → tie.Start
-st t = t .before .before .before .before .before
+st t = t .before .before .before .before
 
 sum-is : (t : tie.After-sum-of) → t .sum-of .result ≡ summed (faultOf (numberForm (st t .args .kind)) (now (st t .args .s))) (totalBy (addsBy (st t .args .kind)) (now (st t .args .s)))
 sum-is t =
@@ -102,23 +102,29 @@ returns-3 c =
     let a = st (at t) in
     works-refused _ _ (listed-wrong (a .args .kind) (now (a .args .s)) _ (formed t .formed) (sym (accepted (c .before .before .before)) ∙ c .before .before .if1 .left) ∙ room-short _ _ _ (c .before .if2 .taken)) (c .refused3 .ensures)
 
+weights-of-requires : tie.Need-weights-of-requires
+weights-of-requires c κs = search needs
+
+slice-aggregate-put-corrections : tie.Need-slice-aggregate-put-corrections
+slice-aggregate-put-corrections c = search needs
+
 put-corrections-requires : tie.Need-put-corrections-requires
 put-corrections-requires c κs =
-    let t = c .before .before .before .before in
-    (st (at t) .pre, (formed t, c .before .if2 .left))
+    let t = c .before .before .before .before .before .before in
+    (c .before .before .weights-of .ensures ∙ ap (λ (q : Row). placed 20 (figureBy (q .figure) .weights)) (at t .before .row .ensures), (formed t, c .before .before .before .if2 .left))
 
 div-t14 : tie.Need-div-t14
-div-t14 c = omega (arith, short (c .before .before .before .before .before .before .before) .0)
+div-t14 c = omega (arith, short (c .before .before .before .before .before .before .before .before .before) .0)
 
 same-length : tie.Need-same-length
 same-length c = search needs
 
 returns-4 : tie.Need-returns-4
 returns-4 c =
-    let t = c .before .before .before .before .before .before .before in
+    let t = c .before .before .before .before .before .before .before .before .before in
     let a = st (at t) in
-    rw (listed-wrong (a .args .kind) (now (a .args .s)) (entriesOf (a .args .kind) (now (a .args .s)) (length (now (a .args .out)))) (formed t .formed) (sym (accepted (c .before .before .before .before .before .before)) ∙ c .before .before .before .before .before .if1 .left))
-    (entries-done (a .args .kind) (now (a .args .s)) _ _ _ _ (c .before .before .before .before .if2 .left) (short t .0) (c .before .before .put-corrections .ensures))
+    rw (listed-wrong (a .args .kind) (now (a .args .s)) (entriesOf (a .args .kind) (now (a .args .s)) (length (now (a .args .out)))) (formed t .formed) (sym (accepted (c .before .before .before .before .before .before .before .before)) ∙ c .before .before .before .before .before .before .before .if1 .left))
+    (entries-done (a .args .kind) (now (a .args .s)) _ _ _ _ (c .before .before .before .before .before .before .if2 .left) (short t .0) (c .before .before .put-corrections .ensures))
 
-pub list-number-spec : {M : Type 1} → statement M
-list-number-spec = tie.close (tie.spec row-requires sum-of-requires enum-known-sum enum-told refused-requires returns passes-requires refused-requires-2 returns-2 mul-if2 sub-if2 mul-if2-2 refused-requires-3 returns-3 put-corrections-requires div-t14 same-length returns-4)
+pub list-text-spec : {M : Type 1} → statement M
+list-text-spec = tie.close (tie.spec row-requires sum-of-requires enum-known-sum enum-told refused-requires returns passes-requires refused-requires-2 returns-2 mul-if2 sub-if2 mul-if2-2 refused-requires-3 returns-3 weights-of-requires slice-aggregate-put-corrections put-corrections-requires div-t14 same-length returns-4)
