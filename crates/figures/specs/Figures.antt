@@ -35,11 +35,11 @@ totalBy f s = total (adds (f .fold) (f .weights)) s
 abbrev pub right : Figure → List ℕ → Bool
 right f s = eqb (totalBy f s % f .modulus) 0
 
--- 40: weights 3, 1, 3, 1 .. leftwards from the digit before the check, the check itself 1; a multiple of 10
+-- 40: the check digit weighs 1, the digit before it 3, and so on in turn; a multiple of 10 (GS1)
 abbrev pub figure40 : Figure
 figure40 = figure false (1 ∷ 3 ∷ []) 10
 
--- 41: check 1, then leftwards 2, 3, 4, 5, 6, 7, 2, 3; a multiple of 11
+-- 41: the check digit weighs 1, those before it 2 to 7 and again 2, 3; a multiple of 11
 abbrev pub figure41 : Figure
 figure41 = figure false (1 ∷ 2 ∷ 3 ∷ 4 ∷ 5 ∷ 6 ∷ 7 ∷ 2 ∷ 3 ∷ []) 11
 
