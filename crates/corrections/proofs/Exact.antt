@@ -102,19 +102,12 @@ exact Australia s d =
 
 -- ---- the lengths of a number
 
-pub most-20 : (k : Five) → row k .most ≤ 20
-most-20 Gln = omega arith
-most-20 Norway = omega arith
-most-20 Belgium = omega arith
-most-20 Sweden = omega arith
-most-20 Australia = omega arith
-
-pub least-1 : (k : Five) → 1 ≤ row k .least
-least-1 Gln = omega arith
-least-1 Norway = omega arith
-least-1 Belgium = omega arith
-least-1 Sweden = omega arith
-least-1 Australia = omega arith
+pub lengths : (k : Five) → (1 ≤ row k .least) × (row k .most ≤ 20)
+lengths Gln = (omega arith, omega arith)
+lengths Norway = (omega arith, omega arith)
+lengths Belgium = (omega arith, omega arith)
+lengths Sweden = (omega arith, omega arith)
+lengths Australia = (omega arith, omega arith)
 
 -- ---- the tests that the code makes
 
@@ -138,12 +131,12 @@ module _ (k : Five) (s : List ℕ) (sum : ℕ) (p : Summed k s sum) where
   number-digits = digits-fit (row k .least) (row k .most) s (p .formed)
 
   pub short-20 : length s ≤ 20
-  short-20 = omega (arith, number-digits .most, most-20 k)
+  short-20 = omega (arith, number-digits .most, lengths k .1)
 
   pub sum-small : sum ≤ 773094113280
   sum-small =
       let d = number-digits in
-      omega (arith, total-small (row k .figure) s (d .digit), d .most, most-20 k, p .sum-is)
+      omega (arith, total-small (row k .figure) s (d .digit), d .most, lengths k .1, p .sum-is)
 
   pub number-passes : totalPasses (row k .figure) sum ≡ accepts (ruleOf k) s
   number-passes = ap (totalPasses (row k .figure)) (p .sum-is) ∙ sym (exact k s number-digits)

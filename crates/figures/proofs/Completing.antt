@@ -237,9 +237,6 @@ module _ (body : List ℕ) (h : all isDigit body ≡ true) (n : length body ≡ 
             pair-text y k d .0 ∙ ap twoDigits (eqb-true (number y) x (sym (good43 y k d) ∙ g));
       }
 
-  pub mod97-pair : (1 ≤ 97 - number body % 97) × (97 - number body % 97 ≤ 97)
-  mod97-pair = (omega arith, omega arith)
-
 -- 0151
 module _ (body : List ℕ) (h : all isDigit body ≡ true) (n : length body ≡ 9) where
   -- the pair counts as the number that it writes
@@ -282,6 +279,3 @@ module _ (body : List ℕ) (h : all isDigit body ≡ true) (n : length body ≡ 
             let d = all-front y body (abn-links (y ++ body) g .form .digit) in
             pair-text y k d .0 ∙ ap twoDigits (eqb-true (number y) x (sym (good50 y k d l) ∙ g));
       }
-
-  pub abn-pair : (11 ≤ 99 - totalBy figure50 body % 89) × (99 - totalBy figure50 body % 89 ≤ 99)
-  abn-pair = (omega arith, omega arith)

@@ -83,9 +83,23 @@ fn weight(weights: &[u32], k: usize) -> u32
     weights[round]
 }
 
-// The weights of the last 20 places, by a table.
-fn placed(weights: &[u32]) -> [u32; 20]
-    ensures { λ r. ⌜ r ≡ placed 20 (now (weights .entry)) ⌝ }
+// The weights of the last 20 places of a number.
+pub fn weights_of(kind: Kind) -> [u32; 20]
+    ensures { λ r. ⌜ r ≡ placed 20 (figureBy kind .weights) ⌝ }
+{
+    match kind {
+        Kind::Mod10 => placed(kind, &MOD10),
+        Kind::Mod11 => placed(kind, &MOD11),
+        Kind::Mod97 => placed(kind, &MOD97),
+        Kind::Luhn => placed(kind, &LUHN),
+        Kind::Mod89 => placed(kind, &MOD89),
+    }
+}
+
+// The same by the figure's table.
+fn placed(kind: Kind, weights: &[u32]) -> [u32; 20]
+    requires { ⌜ now weights ≡ figureBy kind .weights ⌝ }
+    ensures { λ r. ⌜ r ≡ placed 20 (figureBy kind .weights) ⌝ }
 {
     let mut places = [0u32; 20];
     let mut k: usize = 0;
@@ -94,19 +108,6 @@ fn placed(weights: &[u32]) -> [u32; 20]
         k += 1;
     }
     places
-}
-
-// The weights of the last 20 places of a number.
-pub fn weights_of(kind: Kind) -> [u32; 20]
-    ensures { λ r. ⌜ r ≡ placed 20 (figureBy kind .weights) ⌝ }
-{
-    match kind {
-        Kind::Mod10 => placed(&MOD10),
-        Kind::Mod11 => placed(&MOD11),
-        Kind::Mod97 => placed(&MOD97),
-        Kind::Luhn => placed(&LUHN),
-        Kind::Mod89 => placed(&MOD89),
-    }
 }
 
 // Whether the digits of a product are added.

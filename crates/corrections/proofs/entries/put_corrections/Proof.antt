@@ -4,7 +4,7 @@ use denote.Ref.{now}
 use lib.ListN.{length}
 use Rattle.ascii.proofs.Area.{put-more}
 use Rattle.corrections.specs.Corrections.{corrections}
-use Rattle.corrections.proofs.Exact.{number-digits, least-1}
+use Rattle.corrections.proofs.Exact.{number-digits, lengths}
 use Rattle.corrections.proofs.Areas.{joined-append, room-split}
 use native.Mathlib.Omega.{arith}
 use borrow.Author.Needs.{needs}
@@ -15,7 +15,7 @@ abbrev len : tie.Start → ℕ
 len c = length (now (c .args .s))
 
 one : (c : tie.Start) → 1 ≤ len c
-one c = omega (arith, least-1 (c .args .kind), number-digits (c .args .kind) (now (c .args .s)) (c .args .sum) (c .pre .1 .0) .least)
+one c = omega (arith, lengths (c .args .kind) .0, number-digits (c .args .kind) (now (c .args .s)) (c .args .sum) (c .pre .1 .0) .least)
 
 room : (c : tie.Start) → len c * len c + (len c - 1) * len c ≤ length (now (c .args .out))
 room c = rw (room-split (len c) (one c)) at (c .pre .1 .1)

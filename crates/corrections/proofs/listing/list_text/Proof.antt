@@ -16,7 +16,7 @@ use Rattle.corrections.specs.Five.{row, ruleOf, numberForm}
 use Rattle.corrections.specs.Listing.{entriesOf}
 use Rattle.corrections.specs.Inner.{addsBy, Summed}
 use Rattle.corrections.proofs.Areas.{small-joined}
-use Rattle.corrections.proofs.Exact.{most-20, least-1, number-digits, number-passes}
+use Rattle.corrections.proofs.Exact.{lengths, number-digits, number-passes}
 use Rattle.corrections.proofs.Outcomes.{works-refused, room-short}
 use Rattle.corrections.proofs.Rows.{listed-unfit, listed-good, listed-wrong, entries-done}
 use native.Mathlib.Omega.{arith}
@@ -43,7 +43,7 @@ short : (t : tie.After-known-told) → (1 ≤ length (now (st (at t) .args .s)))
 short t =
     let k = st (at t) .args .kind in
     let d = number-digits k (now (st (at t) .args .s)) _ (formed t) in
-    (omega (arith, least-1 k, d .least), omega (arith, most-20 k, d .most))
+    (omega (arith, lengths k .0, d .least), omega (arith, lengths k .1, d .most))
 
 accepted : (t : tie.After-passes) → t .passes .result ≡ accepts (ruleOf (st (at (t .before)) .args .kind)) (now (st (at (t .before)) .args .s))
 accepted t =

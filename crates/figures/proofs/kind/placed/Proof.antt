@@ -54,7 +54,7 @@ returns : tie.Need-returns Inv-loop μ-loop
 returns c =
     let l = c .before .loop in
     let e : l .k ≡ 20 = omega arith in
-    sym (take-all 20 (l .places) (omega arith)) ∙ rw e at (l .inv .2)
+    sym (take-all 20 (l .places) (omega arith)) ∙ rw e at (l .inv .2) ∙ ap (placed 20) (c .before .before .before .pre)
 
 pub placed-spec : {M : Type 1} → statement M
 placed-spec = tie.close (tie.spec Inv-loop μ-loop loop-holds weight-requires mul-places array-write-places add-k loop-less loop-again returns)
