@@ -19,7 +19,7 @@ use Rattle.rules.specs.Finding.{finding}
 use Rattle.accounts.specs.Rules.{ibanFinding, creditorFinding}
 use Rattle.guard.specs.Gln.{strictGln}
 use Rattle.checks.specs.declared.judge.Judge.{Judge}
-use Rattle.checks.specs.declared.judge.Judge.the-variants.{ByRule, Iban, Creditor, StrictGln}
+use Rattle.checks.specs.declared.judge.Judge.the-variants.{ByRule, Iban, Creditor}
 use Rattle.checks.specs.Reading.{foundIn, answered}
 
 -- what a judge finds in a text
@@ -27,7 +27,6 @@ unfoldable pub findingBy : Judge → List ℕ → Finding
 findingBy (ByRule r) s = finding r s
 findingBy Iban s = ibanFinding s
 findingBy Creditor s = creditorFinding s
-findingBy StrictGln s = strictGln s
 
 -- a rule's answer to a content
 unfoldable pub answerBy : Rule → List ℕ → Answer
@@ -55,5 +54,5 @@ creditorAnswer content = answered 0 NoSeverity (foundIn Stripped (findingBy Cred
 unfoldable pub easAnswer : List ℕ → List ℕ → Answer
 easAnswer scheme content =
     pick (sameBytes scheme (bytes "0088"))
-    (answered 0 NoSeverity (foundIn AsItStands (findingBy StrictGln) content))
+    (answered 0 NoSeverity (foundIn AsItStands strictGln content))
     noRule

@@ -1,44 +1,16 @@
 // The checks.
 ghost use mathlib.Core.Path.{_≡_};
-ghost use Rattle.checks.specs.Reading.{foundIn, answered};
-ghost use Rattle.checks.specs.Check.{findingBy, answerBy, checkOf, ibanAnswer, creditorAnswer, easAnswer};
+ghost use Rattle.checks.specs.Check.{answerBy, checkOf, ibanAnswer, creditorAnswer, easAnswer};
 use super::judge::Judge;
-use super::reading::found_in;
+use super::judge::answer_to;
+use super::reading::answer_by;
+use super::reading::stripped;
 use answer::Answer;
 use answer::Reason;
 use answer::Severity;
 use answer::refused;
-use figures::Finding;
 use rules::Chosen;
 use rules::Rule;
-use text::Reading;
-
-// The answer to a finding.
-fn answer_to(number: u32, severity: Severity, found: Finding) -> Answer
-    ensures { λ r. ⌜ r ≡ answered number severity found ⌝ }
-{
-    match found {
-        Finding::Good => answer::accepted(number, severity),
-        Finding::Through => answer::unread(number, severity),
-        Finding::Zero => refused(number, severity, Reason::Zero),
-        Finding::Wrong => refused(number, severity, Reason::Check),
-        Finding::Unfit(_) => refused(number, severity, Reason::Form),
-        Finding::Unreadable(why) => refused(number, severity, why),
-    }
-}
-
-// The one way: how a content is read, who judges its text, and the number and the severity that the answer carries.
-pub fn answer_by(
-    how: Reading,
-    judge: Judge,
-    number: u32,
-    severity: Severity,
-    content: &[u8],
-) -> Answer
-    ensures { λ r. ⌜ r ≡ answered number severity (foundIn how (findingBy judge) (now (content .entry))) ⌝ }
-{
-    answer_to(number, severity, found_in(how, judge, content))
-}
 
 // The answer of a rule to a content.
 pub fn check_by(rule: Rule, content: &[u8]) -> Answer
@@ -64,42 +36,29 @@ pub fn check(scheme: &[u8], term: u32, content: &[u8]) -> Answer
     }
 }
 
+// Straight to the reading: with one caller, the check of a field, `answer_by` goes into it.
 pub fn is_valid_iban_checksum(content: &[u8]) -> Answer
     ensures { λ r. ⌜ r ≡ ibanAnswer (now (content .entry)) ⌝ }
 {
-    answer_by(
-        Reading::Stripped,
-        Judge::Iban,
-        0,
-        Severity::NoSeverity,
-        content,
-    )
+    stripped(Judge::Iban, 0, Severity::NoSeverity, content)
 }
 
 pub fn is_valid_creditor_identifier(content: &[u8]) -> Answer
     ensures { λ r. ⌜ r ≡ creditorAnswer (now (content .entry)) ⌝ }
 {
-    answer_by(
-        Reading::Stripped,
-        Judge::Creditor,
-        0,
-        Severity::NoSeverity,
-        content,
-    )
+    stripped(Judge::Creditor, 0, Severity::NoSeverity, content)
 }
 
-// The answer to a value under a scheme. The content of any other scheme is not looked at.
+// The answer to a value under a scheme. The content of any other scheme is not looked at; that of this one is read as it stands.
 pub fn eas_value(scheme: &[u8], content: &[u8]) -> Answer
     ensures { λ r. ⌜ r ≡ easAnswer (now (scheme .entry)) (now (content .entry)) ⌝ }
 {
     if ascii::same_bytes(scheme, b"0088") {
-        return answer_by(
-            Reading::AsItStands,
-            Judge::StrictGln,
-            0,
-            Severity::NoSeverity,
-            content,
-        );
+        let why = text::readable(content);
+        if why.number() == 0 {
+            return answer_to(0, Severity::NoSeverity, guard::gln_problem(content));
+        }
+        return refused(0, Severity::NoSeverity, why);
     }
     answer::no_rule()
 }

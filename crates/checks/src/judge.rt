@@ -1,6 +1,11 @@
-// What judges a text.
+// What judges a text, and the answer to a finding.
 ghost use mathlib.Core.Path.{_≡_};
+ghost use Rattle.checks.specs.Reading.{answered};
 ghost use Rattle.checks.specs.Check.{findingBy};
+use answer::Answer;
+use answer::Reason;
+use answer::Severity;
+use answer::refused;
 use figures::Finding;
 use rules::Rule;
 
@@ -8,16 +13,28 @@ pub enum Judge {
     ByRule(Rule),
     Iban,
     Creditor,
-    StrictGln,
 }
 
-pub(crate) fn finding(judge: Judge, text: &[u8]) -> Finding
-    ensures { λ r. ⌜ r ≡ findingBy judge (now (text .entry)) ⌝ }
+pub(crate) fn answer_to(number: u32, severity: Severity, found: Finding) -> Answer
+    ensures { λ r. ⌜ r ≡ answered number severity found ⌝ }
+{
+    match found {
+        Finding::Good => answer::accepted(number, severity),
+        Finding::Through => answer::unread(number, severity),
+        Finding::Zero => refused(number, severity, Reason::Zero),
+        Finding::Wrong => refused(number, severity, Reason::Check),
+        Finding::Unfit(_) => refused(number, severity, Reason::Form),
+        Finding::Unreadable(why) => refused(number, severity, why),
+    }
+}
+
+// The answer to a text that was read. It has every rule in it, so that a finding goes into no memory.
+pub(crate) fn answer_text(judge: Judge, number: u32, severity: Severity, text: &[u8]) -> Answer
+    ensures { λ r. ⌜ r ≡ answered number severity (findingBy judge (now (text .entry))) ⌝ }
 {
     match judge {
-        Judge::ByRule(rule) => rules::finding(rule, text),
-        Judge::Iban => accounts::iban_text(text),
-        Judge::Creditor => accounts::creditor_text(text),
-        Judge::StrictGln => guard::gln_problem(text),
+        Judge::ByRule(rule) => answer_to(number, severity, rules::finding(rule, text)),
+        Judge::Iban => answer_to(number, severity, accounts::iban_text(text)),
+        Judge::Creditor => answer_to(number, severity, accounts::creditor_text(text)),
     }
 }

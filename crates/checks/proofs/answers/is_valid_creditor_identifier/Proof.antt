@@ -4,12 +4,12 @@ use borrow.Author.Needs.{needs}
 use Rattle.checks.proofs.answers.is_valid_creditor_identifier.Statement.{statement}
 use Rattle.checks.proofs.answers.is_valid_creditor_identifier.Tie as tie
 
-answer-by-requires : tie.Need-answer-by-requires
-answer-by-requires c κs = search needs
+stripped-requires : tie.Need-stripped-requires
+stripped-requires c κs = search needs
 
 returns : tie.Need-returns
 unfolding creditorAnswer
-returns c = c .answer-by .ensures
+returns c = c .stripped .ensures
 
 pub is-valid-creditor-identifier-spec : {M : Type 1} → statement M
-is-valid-creditor-identifier-spec = tie.close (tie.spec answer-by-requires returns)
+is-valid-creditor-identifier-spec = tie.close (tie.spec stripped-requires returns)

@@ -4,12 +4,12 @@ use borrow.Author.Needs.{needs}
 use Rattle.checks.proofs.answers.is_valid_iban_checksum.Statement.{statement}
 use Rattle.checks.proofs.answers.is_valid_iban_checksum.Tie as tie
 
-answer-by-requires : tie.Need-answer-by-requires
-answer-by-requires c κs = search needs
+stripped-requires : tie.Need-stripped-requires
+stripped-requires c κs = search needs
 
 returns : tie.Need-returns
 unfolding ibanAnswer
-returns c = c .answer-by .ensures
+returns c = c .stripped .ensures
 
 pub is-valid-iban-checksum-spec : {M : Type 1} → statement M
-is-valid-iban-checksum-spec = tie.close (tie.spec answer-by-requires returns)
+is-valid-iban-checksum-spec = tie.close (tie.spec stripped-requires returns)

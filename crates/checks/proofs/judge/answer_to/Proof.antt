@@ -1,4 +1,4 @@
--- `checks::answers::answer_to` meets its contract.
+-- `checks::judge::answer_to` meets its contract.
 use mathlib.Core.Path.{_≡_, sym, ap, _∙_}
 use Prim.Native.Nat.{ℕ}
 use Rattle.answer.specs.declared.record.Answer.{Answer}
@@ -7,8 +7,8 @@ use Rattle.figures.specs.declared.finding.Finding.{Finding}
 use Rattle.figures.specs.declared.finding.Finding.the-variants.{Good, Through, Zero, Wrong, Unfit, Unreadable}
 use Rattle.checks.specs.Reading.{answered}
 use borrow.Author.Needs.{needs}
-use Rattle.checks.proofs.answers.answer_to.Statement.{statement}
-use Rattle.checks.proofs.answers.answer_to.Tie as tie
+use Rattle.checks.proofs.judge.answer_to.Statement.{statement}
+use Rattle.checks.proofs.judge.answer_to.Tie as tie
 
 row : (n : ℕ) (s : Severity) {f : Finding} {a : Answer} (x : Finding) → f ≡ x → a ≡ answered n s x → a ≡ answered n s f
 row n s x e g = g ∙ sym (ap (answered n s) e)
