@@ -39,18 +39,27 @@ share-small fold w d h l =
 
 -- ---- a figure's weights
 
+pub some-weights : (kind : Kind) → 0 < length (figureBy kind .weights)
+some-weights Mod10 = lit< tt
+some-weights Mod11 = lit< tt
+some-weights Mod97 = lit< tt
+some-weights Luhn = lit< tt
+some-weights Mod89 = lit< tt
+
 abbrev light : List ℕ → Bool
 light ws = below (length ws) (λ j. leb (getD ws j 0) 1000000000)
 
-weight-at : (ws : List ℕ) (k : ℕ) → 0 < length ws → light ws ≡ true → weightAt ws k ≤ 1000000000
-weight-at ws k some t = leb-true _ _ (below-at (length ws) (λ j. leb (getD ws j 0) 1000000000) t (k % length ws) (mod-lt k some))
+light-weights : (kind : Kind) → light (figureBy kind .weights) ≡ true
+light-weights Mod10 = refl
+light-weights Mod11 = refl
+light-weights Mod97 = refl
+light-weights Luhn = refl
+light-weights Mod89 = refl
 
 pub weight-small : (kind : Kind) (k : ℕ) → weightAt (figureBy kind .weights) k ≤ 1000000000
-weight-small Mod10 k = weight-at (figureBy Mod10 .weights) k (lit< tt) refl
-weight-small Mod11 k = weight-at (figureBy Mod11 .weights) k (lit< tt) refl
-weight-small Mod97 k = weight-at (figureBy Mod97 .weights) k (lit< tt) refl
-weight-small Luhn k = weight-at (figureBy Luhn .weights) k (lit< tt) refl
-weight-small Mod89 k = weight-at (figureBy Mod89 .weights) k (lit< tt) refl
+weight-small kind k =
+    let ws = figureBy kind .weights in
+    leb-true _ _ (below-at (length ws) (λ j. leb (getD ws j 0) 1000000000) (light-weights kind) (k % length ws) (mod-lt k (some-weights kind)))
 
 pub total-small : (kind : Kind) (s : List ℕ) → all isDigit s ≡ true → totalBy (figureBy kind) s ≤ 38654705664 * length s
 total-small kind [] h = omega arith

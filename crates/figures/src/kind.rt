@@ -1,7 +1,7 @@
 // The check figures by which bodies are completed and numbers corrected: how a digit counts, and what a total says.
 ghost use mathlib.Core.Path.{_≡_};
 ghost use mathlib.Core.Bool.{true};
-ghost use Prim.Native.Nat.{_+_, _*_, _≤_};
+ghost use Prim.Native.Nat.{_+_, _*_, _%_, _≤_, _<_};
 ghost use lib.ListN.{length};
 ghost use Rattle.ascii.specs.Class.{isDigit, all};
 ghost use Rattle.forms.specs.Form.{faultOf};
@@ -64,14 +64,15 @@ pub(crate) const ELEVEN: u64 = 11;
 
 pub(crate) const ABN_MODULUS: u64 = 89;
 
-// The weight of a digit with k digits to its right: the table's, over and over.
-fn weight(weights: &[u32], k: usize) -> u32
+// The weight of a digit with k digits to its right: the table's, over and over, or once where the number is `within` it.
+fn weight(weights: &[u32], k: usize, within: bool) -> u32
+    requires { ⌜ (within ≡ true → k < length (now weights)) ⌝ }
     ensures { λ r. ⌜ r ≡ weightAt (now (weights .entry)) k ⌝ }
 {
-    let n = weights.len();
-    if k < n {
+    if within {
         return weights[k];
     }
+    let n = weights.len();
     if n == 2 {
         let odd = k % 2;
         return weights[odd];
@@ -96,16 +97,31 @@ pub fn weights_of(kind: Kind) -> [u32; 20]
     }
 }
 
+// The place of a table of n that follows the place j, over and over.
+fn next(j: usize, n: usize) -> usize
+    requires { ⌜ j < n ⌝ }
+    ensures { λ r. ⌜ r ≡ (j + 1) % n ⌝ }
+{
+    let after = j + 1;
+    if after == n {
+        return 0;
+    }
+    after
+}
+
 // The same by the figure's table.
 fn placed(kind: Kind, weights: &[u32]) -> [u32; 20]
     requires { ⌜ now weights ≡ figureBy kind .weights ⌝ }
     ensures { λ r. ⌜ r ≡ placed 20 (figureBy kind .weights) ⌝ }
 {
+    let n = weights.len();
     let mut places = [0u32; 20];
     let mut k: usize = 0;
+    let mut j: usize = 0;
     while k < 20 {
-        places[k] = weight(weights, k);
+        places[k] = weights[j];
         k += 1;
+        j = next(j, n);
     }
     places
 }
@@ -140,11 +156,12 @@ fn added(kind: Kind, weights: &[u32], s: &[u8], after: usize) -> u64
     ensures { λ r. ⌜ r ≡ total (λ j d. adds (figureBy kind .fold) (figureBy kind .weights) (j + after) d) (now (s .entry)) ⌝ }
 {
     let n = s.len();
+    let within = n + after <= weights.len();
     let mut sum: u64 = 0;
     let mut i = 0;
     while i < n {
         let k = n - 1 - i + after;
-        sum += share(kind, weight(weights, k), s[i] - 48);
+        sum += share(kind, weight(weights, k, within), s[i] - 48);
         i += 1;
     }
     sum

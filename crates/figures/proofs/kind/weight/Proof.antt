@@ -17,13 +17,13 @@ empty [] k h = refl
 empty (w ∷ ws) k h = absurd (omega arith)
 
 mul-result : tie.Need-mul-result
-mul-result c = search needs
+mul-result c = omega (arith, c .before .pre (c .if1 .taken))
 
 shared-slice-read-result : tie.Need-shared-slice-read-result
-shared-slice-read-result c = search needs
+shared-slice-read-result c = c .before .before .pre (c .before .if1 .taken)
 
 returns : tie.Need-returns
-returns c = sym (within-table (c .before .before .args .weights .now) (c .before .before .args .k) (c .before .if1 .taken))
+returns c = sym (within-table (c .before .before .args .weights .now) (c .before .before .args .k) (c .before .before .pre (c .before .if1 .taken)))
 
 mul-result-2 : tie.Need-mul-result-2
 mul-result-2 c = search needs
