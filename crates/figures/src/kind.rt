@@ -1,7 +1,7 @@
 // The check figures by which bodies are completed and numbers corrected: how a digit counts, and what a total says.
 ghost use mathlib.Core.Path.{_≡_};
 ghost use mathlib.Core.Bool.{true};
-ghost use Prim.Native.Nat.{_+_, _*_, _%_, _≤_, _<_};
+ghost use Prim.Native.Nat.{_+_, _*_, _≤_, _<_};
 ghost use lib.ListN.{length};
 ghost use Rattle.ascii.specs.Class.{isDigit, all};
 ghost use Rattle.forms.specs.Form.{faultOf};
@@ -97,18 +97,6 @@ pub fn weights_of(kind: Kind) -> [u32; 20]
     }
 }
 
-// The place of a table of n that follows the place j, over and over.
-fn next(j: usize, n: usize) -> usize
-    requires { ⌜ j < n ⌝ }
-    ensures { λ r. ⌜ r ≡ (j + 1) % n ⌝ }
-{
-    let after = j + 1;
-    if after == n {
-        return 0;
-    }
-    after
-}
-
 // The same by the figure's table.
 fn placed(kind: Kind, weights: &[u32]) -> [u32; 20]
     requires { ⌜ now weights ≡ figureBy kind .weights ⌝ }
@@ -117,11 +105,13 @@ fn placed(kind: Kind, weights: &[u32]) -> [u32; 20]
     let n = weights.len();
     let mut places = [0u32; 20];
     let mut k: usize = 0;
-    let mut j: usize = 0;
-    while k < 20 {
-        places[k] = weights[j];
+    while k < n {
+        places[k] = weights[k];
         k += 1;
-        j = next(j, n);
+    }
+    while k < 20 {
+        places[k] = places[k - n];
+        k += 1;
     }
     places
 }
