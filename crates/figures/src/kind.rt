@@ -184,26 +184,32 @@ fn within(kind: Kind, weights: &[u32], s: &[u8], after: usize) -> u64
     sum
 }
 
-fn added(kind: Kind, weights: &[u32], s: &[u8], after: usize) -> u64
-    requires { ⌜ now weights ≡ figureBy kind .weights ⌝ ∗ ⌜ all isDigit (now s) ≡ true ⌝ ∗ ⌜ length (now s) ≤ 255 ⌝ ∗ ⌜ after ≤ 1 ⌝ }
-    ensures { λ r. ⌜ r ≡ total (λ j d. adds (figureBy kind .fold) (figureBy kind .weights) (j + after) d) (now (s .entry)) ⌝ }
-{
-    if s.len() + after <= weights.len() {
-        return within(kind, weights, s, after);
-    }
-    around(kind, weights, s, after)
-}
-
 fn added_by(kind: Kind, s: &[u8], after: usize) -> u64
     requires { ⌜ all isDigit (now s) ≡ true ⌝ ∗ ⌜ length (now s) ≤ 255 ⌝ ∗ ⌜ after ≤ 1 ⌝ }
     ensures { λ r. ⌜ r ≡ total (λ j d. adds (figureBy kind .fold) (figureBy kind .weights) (j + after) d) (now (s .entry)) ⌝ }
 {
+    let end = s.len() + after;
     match kind {
         Kind::Mod10 => around(kind, &MOD10, s, after),
-        Kind::Mod11 => added(kind, &MOD11, s, after),
-        Kind::Mod97 => added(kind, &MOD97, s, after),
+        Kind::Mod11 => {
+            if end <= 9 {
+                return within(kind, &MOD11, s, after);
+            }
+            around(kind, &MOD11, s, after)
+        }
+        Kind::Mod97 => {
+            if end <= 10 {
+                return within(kind, &MOD97, s, after);
+            }
+            around(kind, &MOD97, s, after)
+        }
         Kind::Luhn => around(kind, &LUHN, s, after),
-        Kind::Mod89 => added(kind, &MOD89, s, after),
+        Kind::Mod89 => {
+            if end <= 11 {
+                return within(kind, &MOD89, s, after);
+            }
+            around(kind, &MOD89, s, after)
+        }
     }
 }
 
