@@ -49,6 +49,13 @@ some-weights Mod89 = lit< tt
 abbrev light : List ℕ → Bool
 light ws = below (length ws) (λ j. leb (getD ws j 0) 1000000000)
 
+pub few-weights : (kind : Kind) → length (figureBy kind .weights) ≤ 20
+few-weights Mod10 = omega arith
+few-weights Mod11 = omega arith
+few-weights Mod97 = omega arith
+few-weights Luhn = omega arith
+few-weights Mod89 = omega arith
+
 light-weights : (kind : Kind) → light (figureBy kind .weights) ≡ true
 light-weights Mod10 = refl
 light-weights Mod11 = refl

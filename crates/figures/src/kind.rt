@@ -1,8 +1,8 @@
 // The check figures by which bodies are completed and numbers corrected: how a digit counts, and what a total says.
 ghost use mathlib.Core.Path.{_≡_};
 ghost use mathlib.Core.Bool.{true};
-ghost use Prim.Native.Nat.{_+_, _*_, _%_, _≤_, _<_};
-ghost use lib.ListN.{length};
+ghost use Prim.Native.Nat.{_+_, _-_, _*_, _≤_, _<_};
+ghost use lib.ListN.{length, drop};
 ghost use Rattle.ascii.specs.Class.{isDigit, all};
 ghost use Rattle.forms.specs.Form.{faultOf};
 ghost use Rattle.forms.specs.Table.{digits};
@@ -64,14 +64,10 @@ pub(crate) const ELEVEN: u64 = 11;
 
 pub(crate) const ABN_MODULUS: u64 = 89;
 
-// The weight of a digit with k digits to its right: the table's, over and over, or once where the number is `within` it.
-fn weight(weights: &[u32], k: usize, within: bool) -> u32
-    requires { ⌜ (within ≡ true → k < length (now weights)) ⌝ }
+// The weight of a digit with k digits to its right: the table's, over and over.
+fn weight(weights: &[u32], k: usize) -> u32
     ensures { λ r. ⌜ r ≡ weightAt (now (weights .entry)) k ⌝ }
 {
-    if within {
-        return weights[k];
-    }
     let n = weights.len();
     if n == 2 {
         let odd = k % 2;
@@ -97,18 +93,6 @@ pub fn weights_of(kind: Kind) -> [u32; 20]
     }
 }
 
-// The place of a table of n that follows the place j, over and over.
-fn next(j: usize, n: usize) -> usize
-    requires { ⌜ j < n ⌝ }
-    ensures { λ r. ⌜ r ≡ (j + 1) % n ⌝ }
-{
-    let after = j + 1;
-    if after == n {
-        return 0;
-    }
-    after
-}
-
 // The same by the figure's table.
 fn placed(kind: Kind, weights: &[u32]) -> [u32; 20]
     requires { ⌜ now weights ≡ figureBy kind .weights ⌝ }
@@ -117,11 +101,13 @@ fn placed(kind: Kind, weights: &[u32]) -> [u32; 20]
     let n = weights.len();
     let mut places = [0u32; 20];
     let mut k: usize = 0;
-    let mut j: usize = 0;
-    while k < 20 {
-        places[k] = weights[j];
+    while k < n {
+        places[k] = weights[k];
         k += 1;
-        j = next(j, n);
+    }
+    while k < 20 {
+        places[k] = places[k - n];
+        k += 1;
     }
     places
 }
@@ -150,19 +136,50 @@ pub fn share(kind: Kind, w: u32, d: u8) -> u64
     p
 }
 
-// The total of digits by their figure's table, with `after` zeros behind them.
-fn added(kind: Kind, weights: &[u32], s: &[u8], after: usize) -> u64
+// The total of digits by their figure's table over and over, with `after` zeros behind them.
+fn around(kind: Kind, weights: &[u32], s: &[u8], after: usize) -> u64
     requires { ⌜ now weights ≡ figureBy kind .weights ⌝ ∗ ⌜ all isDigit (now s) ≡ true ⌝ ∗ ⌜ length (now s) ≤ 255 ⌝ ∗ ⌜ after ≤ 1 ⌝ }
     ensures { λ r. ⌜ r ≡ total (λ j d. adds (figureBy kind .fold) (figureBy kind .weights) (j + after) d) (now (s .entry)) ⌝ }
 {
     let n = s.len();
-    let within = n + after <= weights.len();
     let mut sum: u64 = 0;
     let mut i = 0;
     while i < n {
         let k = n - 1 - i + after;
-        sum += share(kind, weight(weights, k, within), s[i] - 48);
+        sum += share(kind, weight(weights, k), s[i] - 48);
         i += 1;
+    }
+    sum
+}
+
+// What the digit adds that the weight at k is for; 0 where there is none.
+fn term(kind: Kind, weights: &[u32], s: &[u8], after: usize, k: usize) -> u64
+    requires { ⌜ now weights ≡ figureBy kind .weights ⌝ ∗ ⌜ all isDigit (now s) ≡ true ⌝ ∗ ⌜ k < length (now weights) ⌝ }
+    ensures { λ r. ⌜ (r ≤ 38654705664) × (total (λ j d. adds (figureBy kind .fold) (figureBy kind .weights) (j + after) d) (drop (length (now (s .entry)) + after - k) (now (s .entry))) + r ≡ total (λ j d. adds (figureBy kind .fold) (figureBy kind .weights) (j + after) d) (drop (length (now (s .entry)) + after - (k + 1)) (now (s .entry)))) ⌝ }
+{
+    if k < after {
+        return 0;
+    }
+    let j = k - after;
+    let n = s.len();
+    if j < n {
+        let i = n - 1 - j;
+        return share(kind, weights[k], s[i] - 48);
+    }
+    0
+}
+
+// The same for no more digits than the table has: weight by weight, so that the compiler knows how often and by what.
+fn within(kind: Kind, weights: &[u32], s: &[u8], after: usize) -> u64
+    requires { ⌜ now weights ≡ figureBy kind .weights ⌝ ∗ ⌜ all isDigit (now s) ≡ true ⌝ ∗ ⌜ length (now s) ≤ 255 ⌝ ∗ ⌜ after ≤ 1 ⌝ ∗ ⌜ length (now s) + after ≤ length (now weights) ⌝ }
+    ensures { λ r. ⌜ r ≡ total (λ j d. adds (figureBy kind .fold) (figureBy kind .weights) (j + after) d) (now (s .entry)) ⌝ }
+{
+    let n = weights.len();
+    let mut sum: u64 = 0;
+    let mut k = 0;
+    while k < n {
+        sum += term(kind, weights, s, after, k);
+        k += 1;
     }
     sum
 }
@@ -171,12 +188,28 @@ fn added_by(kind: Kind, s: &[u8], after: usize) -> u64
     requires { ⌜ all isDigit (now s) ≡ true ⌝ ∗ ⌜ length (now s) ≤ 255 ⌝ ∗ ⌜ after ≤ 1 ⌝ }
     ensures { λ r. ⌜ r ≡ total (λ j d. adds (figureBy kind .fold) (figureBy kind .weights) (j + after) d) (now (s .entry)) ⌝ }
 {
+    let end = s.len() + after;
     match kind {
-        Kind::Mod10 => added(kind, &MOD10, s, after),
-        Kind::Mod11 => added(kind, &MOD11, s, after),
-        Kind::Mod97 => added(kind, &MOD97, s, after),
-        Kind::Luhn => added(kind, &LUHN, s, after),
-        Kind::Mod89 => added(kind, &MOD89, s, after),
+        Kind::Mod10 => around(kind, &MOD10, s, after),
+        Kind::Mod11 => {
+            if end <= 9 {
+                return within(kind, &MOD11, s, after);
+            }
+            around(kind, &MOD11, s, after)
+        }
+        Kind::Mod97 => {
+            if end <= 10 {
+                return within(kind, &MOD97, s, after);
+            }
+            around(kind, &MOD97, s, after)
+        }
+        Kind::Luhn => around(kind, &LUHN, s, after),
+        Kind::Mod89 => {
+            if end <= 11 {
+                return within(kind, &MOD89, s, after);
+            }
+            around(kind, &MOD89, s, after)
+        }
     }
 }
 

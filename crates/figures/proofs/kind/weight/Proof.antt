@@ -6,7 +6,6 @@ use native.Mathlib.Nat.{mod-lt}
 use native.Mathlib.Omega.{arith}
 use lib.ListN.{length, getD}
 use Rattle.figures.specs.Figures.{weightAt}
-use Rattle.figures.proofs.Steps.{within-table}
 use borrow.Author.Needs.{needs}
 use Rattle.figures.proofs.kind.weight.Statement.{statement}
 use Rattle.figures.proofs.kind.weight.Tie as tie
@@ -17,37 +16,28 @@ empty [] k h = refl
 empty (w ∷ ws) k h = absurd (omega arith)
 
 mul-result : tie.Need-mul-result
-mul-result c = omega (arith, c .before .pre (c .if1 .taken))
+mul-result c = search needs
 
 shared-slice-read-result : tie.Need-shared-slice-read-result
-shared-slice-read-result c = c .before .before .pre (c .before .if1 .taken)
+shared-slice-read-result c = search needs
 
 returns : tie.Need-returns
-returns c = sym (within-table (c .before .before .args .weights .now) (c .before .before .args .k) (c .before .before .pre (c .before .if1 .taken)))
-
-mul-result-2 : tie.Need-mul-result-2
-mul-result-2 c = search needs
-
-shared-slice-read-result-2 : tie.Need-shared-slice-read-result-2
-shared-slice-read-result-2 c = search needs
+returns c = let a = c .before .before .args in ap (λ (m : ℕ). getD (a .weights .now) (a .k % m) 0) (sym (c .before .if1 .taken))
 
 returns-2 : tie.Need-returns-2
-returns-2 c = let a = c .before .before .before .args in ap (λ (m : ℕ). getD (a .weights .now) (a .k % m) 0) (sym (c .before .if2 .taken))
-
-returns-3 : tie.Need-returns-3
-returns-3 c = empty (c .before .before .before .args .weights .now) (c .before .before .before .args .k) (c .if3 .taken)
+returns-2 c = empty (c .before .before .args .weights .now) (c .before .before .args .k) (c .if2 .taken)
 
 rem-round : tie.Need-rem-round
 rem-round c = search needs
 
-mul-result-3 : tie.Need-mul-result-3
-mul-result-3 c = let a = c .before .before .before .args in let l : a .k % length (a .weights .now) < length (a .weights .now) = mod-lt (a .k) (omega arith) in omega arith
+mul-result-2 : tie.Need-mul-result-2
+mul-result-2 c = let a = c .before .before .args in let l : a .k % length (a .weights .now) < length (a .weights .now) = mod-lt (a .k) (omega arith) in omega arith
 
-shared-slice-read-result-3 : tie.Need-shared-slice-read-result-3
-shared-slice-read-result-3 c = mod-lt _ (omega arith)
+shared-slice-read-result-2 : tie.Need-shared-slice-read-result-2
+shared-slice-read-result-2 c = mod-lt _ (omega arith)
 
-returns-4 : tie.Need-returns-4
-returns-4 c = search needs
+returns-3 : tie.Need-returns-3
+returns-3 c = search needs
 
 pub weight-spec : {M : Type 1} → statement M
-weight-spec = tie.close (tie.spec mul-result shared-slice-read-result returns mul-result-2 shared-slice-read-result-2 returns-2 returns-3 rem-round mul-result-3 shared-slice-read-result-3 returns-4)
+weight-spec = tie.close (tie.spec mul-result shared-slice-read-result returns returns-2 rem-round mul-result-2 shared-slice-read-result-2 returns-3)

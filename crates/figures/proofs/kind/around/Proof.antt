@@ -1,8 +1,7 @@
--- `figures::kind::added` meets its contract. The invariant: the sum so far and what is left make the total. Assumes nothing.
+-- `figures::kind::around` meets its contract. The invariant: the sum so far and what is left make the total. Assumes nothing.
 use mathlib.Core.Path.{_≡_, ap, _∙_}
 use Prim.Native.Nat.{ℕ, _+_, _-_, _*_, _≤_}
 use native.Mathlib.Omega.{arith}
-use borrow.Author.Tests.{leb-true}
 use lib.ListN.{length, getD, drop}
 use Rattle.ascii.specs.Class.{isDigit}
 use Rattle.ascii.proofs.Class.{digit-bounds, all-at}
@@ -12,20 +11,17 @@ use Rattle.figures.specs.Inner.{figureBy}
 use Rattle.figures.proofs.Steps.{step, end}
 use Rattle.figures.proofs.Adding.{share-small}
 use borrow.Author.Needs.{needs}
-use Rattle.figures.proofs.kind.added.Statement.{statement}
-use Rattle.figures.proofs.kind.added.Tie as tie
+use Rattle.figures.proofs.kind.around.Statement.{statement}
+use Rattle.figures.proofs.kind.around.Tie as tie
 
 abbrev Inv-loop : tie.InvT-loop
-Inv-loop kind weights s after n within sum₀ i₀ sum i =
+Inv-loop kind weights s after n sum₀ i₀ sum i =
     (i ≤ length s)
     × (sum ≤ 38654705664 * i)
     × (sum + total (λ j d. adds (figureBy kind .fold) (figureBy kind .weights) (j + after) d) (drop i s) ≡ total (λ j d. adds (figureBy kind .fold) (figureBy kind .weights) (j + after) d) s)
 
 abbrev μ-loop : tie.MeasureT-loop
-μ-loop kind weights s after n within sum₀ i₀ sum i = length s - i
-
-add-within : tie.Need-add-within Inv-loop μ-loop
-add-within c = omega (arith, c .before .before .pre)
+μ-loop kind weights s after n sum₀ i₀ sum i = length s - i
 
 loop-holds : tie.Need-loop-holds Inv-loop μ-loop
 loop-holds c = (omega arith, omega arith, omega arith)
@@ -40,9 +36,7 @@ add-k : tie.Need-add-k Inv-loop μ-loop
 add-k c = omega arith
 
 weight-requires : tie.Need-weight-requires Inv-loop μ-loop
-weight-requires c κs =
-    let a = c .before .before .before .before .args in
-    λ h. omega (arith, leb-true (length (a .s .now) + a .after) (length (a .weights .now)) h)
+weight-requires c κs = search needs
 
 shared-slice-read-share : tie.Need-shared-slice-read-share Inv-loop μ-loop
 shared-slice-read-share c = search needs
@@ -90,5 +84,5 @@ returns c =
     let a = c .before .before .before .before .args in
     omega (arith, end (λ j d. adds (figureBy (a .kind) .fold) (figureBy (a .kind) .weights) (j + a .after) d) (a .s .now) (c .before .loop .i) (omega arith))
 
-pub added-spec : {M : Type 1} → statement M
-added-spec = tie.close (tie.spec Inv-loop μ-loop add-within loop-holds sub-k sub-k-2 add-k weight-requires shared-slice-read-share sub-share share-requires add-sum add-i loop-less loop-again returns)
+pub around-spec : {M : Type 1} → statement M
+around-spec = tie.close (tie.spec Inv-loop μ-loop loop-holds sub-k sub-k-2 add-k weight-requires shared-slice-read-share sub-share share-requires add-sum add-i loop-less loop-again returns)
