@@ -2,7 +2,6 @@
 ghost use mathlib.Core.Path.{_≡_};
 ghost use Rattle.ascii.specs.Written.{sameBytes};
 ghost use Rattle.corrections.specs.Five.{row, ruleOf, fiveOf, schemeOf};
-use ascii::same_bytes;
 use figures::Kind;
 use forms::AUSTRALIAN;
 use forms::BELGIAN;
@@ -137,8 +136,10 @@ fn goes_by(kind: Five, scheme: &[u8]) -> bool
     let Scheme::Four(a, b, c, d) = rule.scheme() else {
         return scheme.len() == 0;
     };
-    let bytes = [a, b, c, d];
-    same_bytes(scheme, &bytes)
+    if scheme.len() != 4 {
+        return false;
+    }
+    (scheme[0] == a) & (scheme[1] == b) & (scheme[2] == c) & (scheme[3] == d)
 }
 
 pub fn five_of(scheme: &[u8]) -> Known

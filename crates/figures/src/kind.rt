@@ -219,8 +219,11 @@ pub fn sum_of(kind: Kind, s: &[u8], least: u8, most: u8, pending: bool) -> Sum
 {
     let fault = digits(s, least as usize, most as usize);
     if is_fit(fault) {
-        let after = pending as usize;
-        return Sum::Of(added_by(kind, s, after));
+        if pending {
+            return Sum::Of(added_by(kind, s, 1));
+        }
+        // a second call, so that `added_by` stays a function of its own, and this one small
+        return Sum::Of(added_by(kind, s, 0));
     }
     Sum::Unfit(fault)
 }
