@@ -7,6 +7,7 @@
 Commands: in README.md and docs/RULES.md each line of an indented or fenced block that begins with "$ " is run by sh in the repository's folder.
 What it prints, on both outputs, must be the lines behind it, up to the next command or the block's end.
 Cases: each case in the two tables of docs/RULES.md, Cases on both sides, is asked of the library.
+Facts: the tables of reasons, terms and schemes there are those of the library and of the Python package.
 Sums: each equation between whole numbers in docs/RULES.md, and each number there that is worked through under its weights.
 Links: each link of the documents leads to a file, or to a heading.
 Citations: each "docs/RULES.md, HEADING" in a file of the repository names a heading that is there.
@@ -191,6 +192,35 @@ def case_faults(name: str, text: str) -> tuple[int, list[str]]:
     return tried, faults
 
 
+# ---- Tables of facts
+
+
+def fact_faults(name: str, text: str) -> tuple[int, list[str]]:
+    """The tables of reasons, terms and schemes: each row beside the library's own numbers, and the names that the package gives to terms."""
+    import partyid
+    from partyid.tables import RULES as ROWS, TERMS as NAMED
+    found: dict[str, set[str]] = {"reasons": set(), "terms": set(), "schemes": set()}
+    for head, *rows in tables(text):
+        if head[:3] == ["", "name", "it says that"]:
+            found["reasons"] = {f"{row[0]} {row[1]}".strip() for row in rows}
+        elif head[:2] == ["term", "name"]:
+            found["terms"] = {f"{row[0]} {row[1].lower()} {'the scheme' in row[3]}" for row in rows}
+        elif head[:2] == ["rule", "scheme"]:
+            found["schemes"] = {" ".join((row[0], row[1].replace("any", ""), row[3], row[4])) for row in rows}
+    wanted = {
+        "reasons": {f"{int(reason)} {reason.name if reason else ''}".strip() for reason in partyid.Reason},
+        "terms": {f"{term.number} {term.name.lower()} {term.by_scheme}" for term in NAMED},
+        "schemes": set(),
+    }
+    for row in ROWS:
+        answer = partyid.check(row.scheme, 34 if row.scheme else 31, row.example)
+        padded = partyid.check(row.scheme, 34 if row.scheme else 31, f" {row.example} ")
+        reading = "normalised" if padded.verdict == answer.verdict else "raw"
+        wanted["schemes"].add(f"{answer.rule} {row.scheme} {answer.severity.name.lower()} {reading}")
+    faults = [f"{name}: table of {kind}: {line}" for kind in wanted for line in sorted(wanted[kind] ^ found[kind])]
+    return sum(map(len, wanted.values())), faults
+
+
 # ---- Sums
 
 TERMS = r"-?\d+(?: [-+×] \d+)*"
@@ -264,7 +294,7 @@ def files() -> Iterator[str]:
 
 
 def compare_all() -> tuple[str, list[str]]:
-    counts = dict.fromkeys(("commands", "cases", "sums", "links", "citations"), 0)
+    counts = dict.fromkeys(("commands", "cases", "facts", "sums", "links", "citations"), 0)
     faults: list[str] = []
 
     def count(kind: str, result: tuple[int, list[str]]) -> None:
@@ -278,6 +308,7 @@ def compare_all() -> tuple[str, list[str]]:
         count("commands", command_faults(name, (ROOT / name).read_text()))
     try:
         count("cases", case_faults(RULES, rules))
+        count("facts", fact_faults(RULES, rules))
     except OSError as why:
         faults.append(f"the library can't be called; make builds it: {why}")
     count("sums", sum_faults(RULES, rules))
