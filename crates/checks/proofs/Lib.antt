@@ -1,3 +1,3 @@
--- Laws of what is found in a content (Found), and of answers (Laws).
-mod Found
+-- Laws of answers.
+mod Judges
 pub mod Laws

@@ -1,3 +1,2 @@
--- The one way from a content to an answer: how it is read, what is found in it, and what is answered.
-pub mod Reading
+-- The checks: from what is found in a content to the answer.
 pub mod Check

@@ -1,7 +1,7 @@
 // What judges a text, and the answer to a finding.
 ghost use mathlib.Core.Path.{_≡_};
-ghost use Rattle.checks.specs.Reading.{answered};
-ghost use Rattle.checks.specs.Check.{findingBy};
+ghost use Rattle.rules.specs.Finding.{finding};
+ghost use Rattle.checks.specs.Check.{answered, findingBy};
 use answer::Answer;
 use answer::Reason;
 use answer::Severity;
@@ -28,12 +28,21 @@ pub(crate) fn answer_to(number: u32, severity: Severity, found: Finding) -> Answ
     }
 }
 
-// The answer to a text that was read. It has every rule in it, so that a finding goes into no memory.
+// The answer of a rule to a text that was read. It has every rule in it, so that a finding goes into no memory; a slice of the text goes on,
+// so that the text comes in registers.
+pub(crate) fn answer_rule(rule: Rule, number: u32, severity: Severity, text: &[u8]) -> Answer
+    ensures { λ r. ⌜ r ≡ answered number severity (finding rule (now (text .entry))) ⌝ }
+{
+    let n = text.len();
+    answer_to(number, severity, rules::finding(rule, &text[0..n]))
+}
+
+// The answer of any judge.
 pub(crate) fn answer_text(judge: Judge, number: u32, severity: Severity, text: &[u8]) -> Answer
     ensures { λ r. ⌜ r ≡ answered number severity (findingBy judge (now (text .entry))) ⌝ }
 {
     match judge {
-        Judge::ByRule(rule) => answer_to(number, severity, rules::finding(rule, text)),
+        Judge::ByRule(rule) => answer_rule(rule, number, severity, text),
         Judge::Iban => answer_to(number, severity, accounts::iban_text(text)),
         Judge::Creditor => answer_to(number, severity, accounts::creditor_text(text)),
     }

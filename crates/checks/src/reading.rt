@@ -5,9 +5,10 @@ ghost use Rattle.ascii.specs.Pick.{pick};
 ghost use Rattle.answer.specs.Answers.{none};
 ghost use Rattle.text.specs.declared.reading.Reading.the-variants.{AsItStands, Normalised, Stripped};
 ghost use Rattle.figures.specs.declared.finding.Finding.the-variants.{Unreadable};
-ghost use Rattle.checks.specs.Reading.{foundIn, answered};
-ghost use Rattle.checks.specs.Check.{findingBy};
+ghost use Rattle.rules.specs.Reading.{foundIn};
+ghost use Rattle.checks.specs.Check.{answered, findingBy};
 use super::judge::Judge;
+use super::judge::answer_rule;
 use super::judge::answer_text;
 use answer::Answer;
 use answer::Severity;
@@ -20,6 +21,10 @@ fn as_it_stands(judge: Judge, number: u32, severity: Severity, content: &[u8]) -
 {
     let why = text::readable(content);
     if why.number() == 0 {
+        // called here too, so that `answer_rule` stays a function of its own and an account's check does not go through it
+        if let Judge::ByRule(rule) = judge {
+            return answer_rule(rule, number, severity, content);
+        }
         return answer_text(judge, number, severity, content);
     }
     refused(number, severity, why)

@@ -2,7 +2,8 @@
 use mathlib.Core.Path.{_≡_, refl, sym, ap, _∙_}
 use mathlib.Core.Bool.{Bool, true, false, not, _&&_}
 use mathlib.Core.List.{List, [], _∷_, _++_}
-use Prim.Native.Nat.{ℕ, _≤_}
+use Prim.Native.Nat.{ℕ, _+_, _≤_}
+use mir.Val.{boolByte}
 use native.Mathlib.Omega.{arith}
 use borrow.Author.Tests.{eqb-false}
 use lib.Dec.{eqb}
@@ -28,6 +29,14 @@ use Rattle.corrections.specs.Inner.{addsBy, whyNone}
 -- the total as the code asks for it: with a 0 for a check digit, and without a check pair
 abbrev pub bodyTotal : Five → List ℕ → ℕ
 bodyTotal k body = totalBy (addsBy k) (withZero (not (row k .pair)) body)
+
+-- the check digit that is still to come has its place too
+pub body-room : (k : Five) → row k .longest + boolByte (not (row k .pair)) ≤ row k .most
+body-room Gln = omega arith
+body-room Norway = omega arith
+body-room Belgium = omega arith
+body-room Sweden = omega arith
+body-room Australia = omega arith
 
 abbrev pub check : Five → ℕ → ℕ
 check k t = lacking (row k .figure) t

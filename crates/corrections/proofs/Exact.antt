@@ -6,26 +6,30 @@ use Prim.Native.Nat.{ℕ, _+_, _-_, _*_, _/_, _%_, _^_, _≤_, _<_}
 use native.Mathlib.Nat.{mul-assoc}
 use native.Mathlib.Omega.{arith}
 use borrow.Author.Tests.{eqb-true}
+use mir.Val.{boolByte}
 use lib.Dec.{eqb}
 use lib.IntN.{natAbs, subℕ}
 use lib.ListN.{length, getD, set, take, drop, length-set, length-take, length-drop, take-append-drop}
 use Rattle.ascii.specs.Class.{isDigit, all}
 use Rattle.ascii.proofs.Tests.{eqb-iff, below-at}
 use Rattle.ascii.proofs.Class.{digit-bounds, digit-inside, all-first, all-rest, all-drop}
+use Rattle.forms.specs.Form.{faultOf}
+use Rattle.forms.specs.Table.{digits}
 use Rattle.forms.specs.declared.form.Fault.{Fault}
 use Rattle.forms.specs.declared.form.Fault.the-variants.{Fits}
 use Rattle.forms.proofs.OfDigits.{Digits, digits-fit, fit-digits}
 use Rattle.figures.specs.Total.{total, digitAt, number}
-use Rattle.figures.specs.Figures.{counted, adds, totalBy, right, figure40, figure41, belgianPair, luhn, figure50}
-use Rattle.figures.specs.Inner.{figureBy, totalPasses}
+use Rattle.figures.specs.Figures.{weightAt, counted, adds, totalBy, right, figure40, figure41, belgianPair, luhn, figure50}
+use Rattle.figures.specs.Inner.{figureBy, weightBy, addsFrom, summed, summedBy, withZero, totalPasses}
 use Rattle.figures.specs.declared.kind.Kind.{Kind}
 use Rattle.figures.specs.declared.kind.Kind.the-variants.{Mod97}
 use Rattle.figures.specs.Findings.{isGood, judgedZero}
 use Rattle.figures.specs.Rules.{gln, mod11, mod97, seOrgnr, abn, abnTotal, allZero}
 use Rattle.figures.specs.Changes.{exchanged}
 use Rattle.figures.proofs.Judging.{good-by}
-use Rattle.figures.proofs.Digits.{all-set, by-powers}
-use Rattle.figures.proofs.Adding.{adds-zero, total-small, placed-length, placed-at}
+use Rattle.figures.proofs.Digits.{all-set, by-powers, same-total}
+use Rattle.figures.proofs.Steps.{within-table}
+use Rattle.figures.proofs.Adding.{adds-zero, total-small, placed-length, placed-at, with-pending, sum-formed, sum-same}
 use Rattle.figures.proofs.Zeros.{zeros41}
 use Rattle.figures.proofs.Shift.{total-set, total-exchanged}
 use Rattle.figures.proofs.Links.{join, total-reduced, leaves-ten, ten-leaves}
@@ -115,23 +119,45 @@ lengths Australia = (omega arith, omega arith)
 abbrev pub sharing : Five → ℕ → ℕ → ℕ
 sharing k j d = adds (addsBy k .fold) (addsBy k .weights) j d
 
--- as the code asks for it, by a weight that it looked up
-pub shared : (k : Five) (f : Kind) (ws : List ℕ) (j d : ℕ) {r : ℕ} → f ≡ row k .figure → ws ≡ placesOf k → j < 20
+-- the weights of a number's places are its figure's
+weight-is : (k : Five) (j : ℕ) → j < row k .most → weightBy (row k .figure) j ≡ weightAt (addsBy k .weights) j
+weight-is Gln j l = refl
+weight-is Norway j l = sym (within-table (addsBy Norway .weights) j l)
+weight-is Belgium j l = sym (within-table (addsBy Belgium .weights) j l)
+weight-is Sweden j l = refl
+weight-is Australia j l = sym (within-table (addsBy Australia .weights) j l)
+
+pub place-is : (k : Five) (j : ℕ) → j < row k .most → getD (placesOf k) j 0 ≡ weightAt (addsBy k .weights) j
+place-is k j l = placed-at 20 (weightBy (row k .figure)) j (omega (arith, lengths k .1)) ∙ weight-is k j l
+
+-- what a digit adds as the code asks for it, by a weight that it looked up
+pub shared : (k : Five) (f : Kind) (ws : List ℕ) (j d : ℕ) {r : ℕ} → f ≡ row k .figure → ws ≡ placesOf k → j < row k .most
     → r ≡ counted (figureBy f .fold) (getD ws j 0 * d) → r ≡ sharing k j d
 shared k f ws j d g e q h =
     h
     ∙ ap (λ z. counted (figureBy z .fold) (getD ws j 0 * d)) g
-    ∙ ap (λ x. counted (addsBy k .fold) (x * d)) (ap (λ l. getD l j 0) e ∙ placed-at 20 (addsBy k .weights) j q)
+    ∙ ap (λ x. counted (addsBy k .fold) (x * d)) (ap (λ l. getD l j 0) e ∙ place-is k j q)
 
 pub places-20 : (k : Five) {ws : List ℕ} → ws ≡ placesOf k → length ws ≡ 20
-places-20 k e = ap length e ∙ placed-length 20 (addsBy k .weights)
+places-20 k e = ap length e ∙ placed-length 20 (weightBy (row k .figure))
+
+-- the sum that the code asks for is that of the figure
+pub sum-is : (k : Five) (p : Bool) (a b : ℕ) (s : List ℕ) → b + boolByte p ≤ row k .most
+    → summedBy (addsBy k .fold) (placesOf k) (digits a b) (boolByte p) s ≡ summed (faultOf (digits a b) s) (totalBy (addsBy k) (withZero p s))
+sum-is k p a b s h =
+    sum-formed (addsBy k .fold) (placesOf k) (digits a b) (boolByte p) s (omega (arith, places-20 k refl, lengths k .1))
+    ∙ sum-same (faultOf (digits a b) s)
+    (λ e.
+    same-total (addsFrom (boolByte p) (addsBy k .fold) (placesOf k)) (λ j d. sharing k (j + boolByte p) d) s
+    (λ j d l. ap (λ x. counted (addsBy k .fold) (x * d)) (place-is k (j + boolByte p) (omega (arith, digits-fit a b s e .most))))
+    ∙ with-pending (sharing k) s p (adds-zero (addsBy k .fold) (addsBy k .weights) 0))
 
 module _ (k : Five) (s : List ℕ) (sum : ℕ) (p : Summed k s sum) where
   pub number-digits : Digits (row k .least) (row k .most) s
   number-digits = digits-fit (row k .least) (row k .most) s (p .formed)
 
-  pub short-20 : length s ≤ 20
-  short-20 = omega (arith, number-digits .most, lengths k .1)
+  pub short : (length s ≤ row k .most) × (length s ≤ 20)
+  short = (number-digits .most, omega (arith, number-digits .most, lengths k .1))
 
   pub sum-small : sum ≤ 773094113280
   sum-small =

@@ -10,7 +10,7 @@ use Rattle.answer.specs.declared.reason.Reason.the-variants.{NoReason, Zero, No
 use Rattle.forms.specs.Form.{faultOf}
 use Rattle.forms.specs.declared.form.Fault.the-variants.{Fits}
 use Rattle.figures.specs.Figures.{Figure, totalBy}
-use Rattle.figures.specs.Inner.{figureBy, placed}
+use Rattle.figures.specs.Inner.{figureBy, weightBy, placed}
 use Rattle.corrections.specs.declared.five.Five.{Five}
 use Rattle.corrections.specs.Five.{row, numberForm}
 
@@ -20,7 +20,7 @@ addsBy k = figureBy (row k .figure)
 
 -- the weights of its places, of which there are at most 20
 abbrev pub placesOf : Five → List ℕ
-placesOf k = placed 20 (addsBy k .weights)
+placesOf k = placed 20 (weightBy (row k .figure))
 
 -- a number of the right form, and its total
 pub record Summed (k : Five) (s : List ℕ) (sum : ℕ) : Type 0 where

@@ -15,6 +15,7 @@ use answer::Reason;
 use figures::Sum;
 use figures::lacking;
 use figures::sum_of;
+use figures::weights_of;
 
 // Why a body has no figure, by its total and its check: ZERO or NO_FIGURE, where there can be none.
 fn why_none(gaps: bool, total: u64, check: u64) -> Reason
@@ -64,7 +65,8 @@ fn complete_by(kind: Five, body: &[u8], out: &mut [u8]) -> Done
 {
     let row = kind.row();
     let figure = row.figure;
-    let Sum::Of(total) = sum_of(figure, body, row.shortest, row.longest, !row.pair) else {
+    let weights = weights_of(figure);
+    let Sum::Of(total) = sum_of(figure, &weights, body, row.shortest, row.longest, !row.pair) else {
         return refused(Reason::Form);
     };
     let check = lacking(figure, total);

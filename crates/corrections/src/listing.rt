@@ -21,7 +21,8 @@ fn list_text(kind: Five, s: &[u8], out: &mut [u8]) -> Done
 {
     let row = kind.row();
     let figure = row.figure;
-    let Sum::Of(sum) = sum_of(figure, s, row.least, row.most, false) else {
+    let weights = weights_of(figure);
+    let Sum::Of(sum) = sum_of(figure, &weights, s, row.least, row.most, false) else {
         return refused(Reason::Form);
     };
     if passes(figure, sum) {
@@ -31,11 +32,11 @@ fn list_text(kind: Five, s: &[u8], out: &mut [u8]) -> Done
     if out.len() < (2 * n - 1) * n {
         return refused(Reason::Room);
     }
-    let weights = weights_of(figure);
     let end = put_corrections(kind, &weights, s, sum, out);
+    let count = end / n;
     Done {
         reason: Reason::NoReason,
-        count: end / n,
+        count,
     }
 }
 

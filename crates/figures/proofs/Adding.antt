@@ -6,23 +6,26 @@ use Prim.Native.Nat.{ℕ, zero, suc, _+_, _-_, _*_, _/_, _%_, _≤_, _<_}
 use native.Mathlib.Nat.{add-zero, mul-le-mul, mod-lt}
 use native.Mathlib.Omega.{arith}
 use native.Mathlib.Decide.{ℕ-discrete}
-use borrow.Author.Tests.{leb-true}
+use borrow.Author.Tests.{leb-true, leb-false, le-leb, lt-leb}
 use lib.Dec.{leb, lit<}
-use lib.ListN.{length, getD, length-append, List·getD-append}
-use lib.Seq.{getD-append-add}
+use lib.ListN.{length, getD, set, replicate, length-append, length-set, getD-replicate, List·getD-append}
+use lib.Seq.{getD-append-add, getD-set-same, getD-set-other, ext-getD}
 use mir.Val.{boolByte}
+use Rattle.ascii.specs.Pick.{pick}
 use Rattle.ascii.specs.Class.{isDigit, all}
 use Rattle.ascii.proofs.Tests.{false-true, below, below-at}
 use Rattle.ascii.proofs.Class.{digit-bounds, all-first, all-rest}
-use Rattle.forms.specs.Form.{isFit}
+use Rattle.forms.specs.Form.{Form, faultOf, isFit}
+use Rattle.forms.proofs.Laws.{fault-long}
 use Rattle.forms.specs.declared.form.Fault.{Fault}
 use Rattle.forms.specs.declared.form.Fault.the-variants.{Fits, Length, At}
 use Rattle.figures.specs.Total.{total}
 use Rattle.figures.specs.Figures.{Figure, weightAt, counted, adds, totalBy}
 use Rattle.figures.specs.Completing.{oneDigit}
-use Rattle.figures.specs.Inner.{figureBy, placed, withZero, summed}
+use Rattle.figures.specs.Inner.{figureBy, placed, addsFrom, summed, summedBy, withZero}
 use Rattle.figures.specs.declared.kind.Kind.{Kind}
 use Rattle.figures.specs.declared.kind.Kind.the-variants.{Mod10, Mod11, Mod97, Luhn, Mod89}
+use Rattle.figures.specs.declared.kind.Sum.{Sum}
 use Rattle.figures.specs.declared.kind.Sum.the-variants.{Of, Unfit}
 use Rattle.figures.proofs.Digits.{same-total}
 use Rattle.figures.proofs.Links.{join}
@@ -49,13 +52,6 @@ some-weights Mod89 = lit< tt
 abbrev light : List ℕ → Bool
 light ws = below (length ws) (λ j. leb (getD ws j 0) 1000000000)
 
-pub few-weights : (kind : Kind) → length (figureBy kind .weights) ≤ 20
-few-weights Mod10 = omega arith
-few-weights Mod11 = omega arith
-few-weights Mod97 = omega arith
-few-weights Luhn = omega arith
-few-weights Mod89 = omega arith
-
 light-weights : (kind : Kind) → light (figureBy kind .weights) ≡ true
 light-weights Mod10 = refl
 light-weights Mod11 = refl
@@ -78,18 +74,18 @@ total-small kind (b ∷ s) h =
       total-small kind s (all-rest isDigit b s h),
     )
 
-pub placed-length : (n : ℕ) (ws : List ℕ) → length (placed n ws) ≡ n
+pub placed-length : (n : ℕ) (f : ℕ → ℕ) → length (placed n f) ≡ n
 unfolding placed
-placed-length zero ws = refl
-placed-length (suc n) ws = simp (length-append, placed-length n ws) (omega arith)
+placed-length zero f = refl
+placed-length (suc n) f = simp (length-append, placed-length n f) (omega arith)
 
-pub placed-at : (n : ℕ) (ws : List ℕ) (k : ℕ) → k < n → getD (placed n ws) k 0 ≡ weightAt ws k
+pub placed-at : (n : ℕ) (f : ℕ → ℕ) (k : ℕ) → k < n → getD (placed n f) k 0 ≡ f k
 unfolding placed
-placed-at zero ws k l = absurd (omega arith)
-placed-at (suc n) ws k l =
+placed-at zero f k l = absurd (omega arith)
+placed-at (suc n) f k l =
     elim (ℕ-discrete k n) [
-      | yes q ↦ rw q (getD-end (placed n ws) (weightAt ws n) n (placed-length n ws))
-      | no ne ↦ List·getD-append (placed n ws) (weightAt ws n ∷ []) 0 k (rw (placed-length n ws) (less k n l ne)) ∙ placed-at n ws k (less k n l ne)
+      | yes q ↦ rw q (getD-end (placed n f) (f n) n (placed-length n f))
+      | no ne ↦ List·getD-append (placed n f) (f n ∷ []) 0 k (rw (placed-length n f) (less k n l ne)) ∙ placed-at n f k (less k n l ne)
     ]
   where
     less : (i j : ℕ) → i < suc j → (i ≡ j → ⊥) → i < j
@@ -97,6 +93,39 @@ placed-at (suc n) ws k l =
 
     getD-end : (l : List ℕ) (v i : ℕ) → length l ≡ i → getD (l ++ v ∷ []) i 0 ≡ v
     getD-end l v i e = ap (λ j. getD (l ++ v ∷ []) j 0) (let z : i ≡ length l + 0 = omega arith in z) ∙ getD-append-add l (v ∷ []) 0 0
+
+-- places that are being filled, from the right
+pub record Filled (f : ℕ → ℕ) (k : ℕ) (t : List ℕ) : Type 0 where
+  pub size : length t ≡ 20
+  pub done : (j : ℕ) → j < k → getD t j 0 ≡ f j
+  pub rest : (j : ℕ) → k ≤ j → j < 20 → getD t j 0 ≡ 0
+
+module _ (f : ℕ → ℕ) where
+  pub fill-none : Filled f 0 (replicate 20 0)
+  fill-none = record { size = refl; done = λ j l. absurd (omega arith); rest = λ j h l. getD-replicate 20 j 0 0 l }
+
+  pub fill-next : (k : ℕ) (t : List ℕ) (w : ℕ) → Filled f k t → k < 20 → w ≡ f k → Filled f (k + 1) (set t k w)
+  fill-next k t w r h e = record {
+    size = length-set t k w ∙ r .size;
+    done = λ j l.
+        elim (ℕ-discrete j k) [
+          | yes q ↦ rw q (getD-set-same t k w 0 (omega (arith, r .size)) ∙ e)
+          | no ne ↦ getD-set-other t k j w 0 ne ∙ r .done j (omega arith)
+        ];
+    rest = λ j l b. getD-set-other t k j w 0 (λ q. omega arith) ∙ r .rest j (omega arith) b;
+  }
+
+  -- where the weights have come to an end, the rest is 0
+  pub fill-all : (k : ℕ) (t : List ℕ) → Filled f k t → ((j : ℕ) → k ≤ j → j < 20 → f j ≡ 0) → t ≡ placed 20 f
+  fill-all k t r z =
+      ext-getD 0 t (placed 20 f) (r .size ∙ sym (placed-length 20 f)) (λ j l. at j (omega (arith, r .size)) ∙ sym (placed-at 20 f j (omega (arith, r .size))))
+    where
+      at : (j : ℕ) → j < 20 → getD t j 0 ≡ f j
+      at j l = go (leb k j) refl
+        where
+          go : (b : Bool) → leb k j ≡ b → getD t j 0 ≡ f j
+          go true e = let h = leb-true k j e in r .rest j h l ∙ sym (z j h l)
+          go false e = r .done j (leb-false k j e)
 
 -- ---- a check digit that is still to come
 
@@ -113,13 +142,39 @@ adds-zero fold ws k = omega (arith, counted-small fold (weightAt ws k * 0))
 pub sum-fit : {y : Fault} {t n : ℕ} → y ≡ Fits → t ≡ n → Of t ≡ summed y n
 sum-fit h e = rw (h, e) refl
 
-pub sum-unfit : (x : Fault) {y : Fault} {t : Bool} (n : ℕ) → t ≡ isFit x → x ≡ y → t ≡ false → Unfit x ≡ summed y n
-sum-unfit x n e q h = go x (sym e ∙ h) ∙ ap (λ z. summed z n) q
+-- by a fault that is found in another way
+pub sum-by : {x y : Fault} {r : Sum} (n : ℕ) → r ≡ summed x n → x ≡ y → r ≡ summed y n
+sum-by n e h = rw (← h) e
+
+pub sum-at : {y : Fault} {k : ℕ} (n : ℕ) → y ≡ At k → Unfit (At k) ≡ summed y n
+sum-at n h = rw h refl
+
+pub sum-length : {y : Fault} (n : ℕ) → y ≡ Length → Unfit Length ≡ summed y n
+sum-length n h = rw h refl
+
+pub sum-same : (y : Fault) {n m : ℕ} → (y ≡ Fits → n ≡ m) → summed y n ≡ summed y m
+sum-same Fits h = ap Of (h refl)
+sum-same Length h = refl
+sum-same (At k) h = refl
+
+-- more digits than places
+pub sum-over : (fold : Bool) (places : List ℕ) (f : Form) (after : ℕ) (s : List ℕ) → length places < length s + after → Unfit Length ≡ summedBy fold places f after s
+unfolding summedBy pick
+sum-over fold places f after s h = rw (lt-leb (length s + after) (length places) h)
+
+pub sum-room : (fold : Bool) (places : List ℕ) (f : Form) (after : ℕ) (s : List ℕ) → length s + after ≤ length places → summedBy fold places f after s ≡ summed (faultOf f s) (total (addsFrom after fold places) s)
+unfolding summedBy pick
+sum-room fold places f after s h = rw (le-leb (length s + after) (length places) h)
+
+-- where the places are enough for every number of the form
+pub sum-formed : (fold : Bool) (places : List ℕ) (f : Form) (after : ℕ) (s : List ℕ) → f .most + after ≤ length places → summedBy fold places f after s ≡ summed (faultOf f s) (total (addsFrom after fold places) s)
+sum-formed fold places f after s h = go (leb (length s + after) (length places)) refl
   where
-    go : (z : Fault) → isFit z ≡ false → Unfit z ≡ summed z n
-    go Fits h = false-true (sym h)
-    go Length h = refl
-    go (At k) h = refl
+    go : (t : Bool) → leb (length s + after) (length places) ≡ t → summedBy fold places f after s ≡ summed (faultOf f s) (total (addsFrom after fold places) s)
+    go true e = sum-room fold places f after s (leb-true _ _ e)
+    go false e =
+        let l = leb-false (length s + after) (length places) e in
+        sym (sum-over fold places f after s l) ∙ sum-length _ (fault-long f s (omega arith))
 
 -- what a caller learns of a sum
 pub sum-means : (y : Fault) (n : ℕ) {t : ℕ} → summed y n ≡ Of t → (y ≡ Fits) × (n ≡ t)

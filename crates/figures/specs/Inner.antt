@@ -1,11 +1,16 @@
 -- What the code finds its answers from. No rule cites this; that it says what the rules say is proved.
 use mathlib.Core.Bool.{Bool, true, false, not, _&&_}
 use mathlib.Core.List.{List, [], _∷_, _++_}
-use Prim.Native.Nat.{ℕ, zero, suc, _/_, _%_}
-use lib.Dec.{eqb}
+use Prim.Native.Char.{code}
+use Prim.Native.Nat.{ℕ, zero, suc, _+_, _*_, _/_, _%_}
+use lib.Dec.{eqb, leb}
+use lib.ListN.{length, getD}
+use Rattle.ascii.specs.Pick.{pick}
+use Rattle.forms.specs.Form.{Form, classAt, wrong, faultOf}
 use Rattle.forms.specs.declared.form.Fault.{Fault}
 use Rattle.forms.specs.declared.form.Fault.the-variants.{Fits, Length, At}
-use Rattle.figures.specs.Figures.{Figure, weightAt, figure, figure40, figure41, belgianPair, luhn, figure50}
+use Rattle.figures.specs.Total.{total}
+use Rattle.figures.specs.Figures.{Figure, weightAt, counted, figure, figure40, figure41, belgianPair, luhn, figure50}
 use Rattle.figures.specs.Completing.{oneDigit, complement, abnPair}
 use Rattle.figures.specs.declared.kind.Kind.{Kind}
 use Rattle.figures.specs.declared.kind.Kind.the-variants.{Mod10, Mod11, Mod97, Luhn, Mod89}
@@ -25,10 +30,18 @@ figureBy Mod97 = figure false powers 97
 figureBy Luhn = luhn
 figureBy Mod89 = figure50
 
--- the weights of the last n places
-unfoldable pub placed : ℕ → List ℕ → List ℕ
-placed zero ws = []
-placed (suc n) ws = placed n ws ++ (weightAt ws n ∷ [])
+-- the weight of the place k from the right: two weights alternate for ever, a table has one for each digit that a number has
+abbrev pub weightBy : Kind → ℕ → ℕ
+weightBy Mod10 k = weightAt (figure40 .weights) k
+weightBy Mod11 k = getD (figure41 .weights) k 0
+weightBy Mod97 k = getD powers k 0
+weightBy Luhn k = weightAt (luhn .weights) k
+weightBy Mod89 k = getD (figure50 .weights) k 0
+
+-- the weights of n places
+unfoldable pub placed : ℕ → (ℕ → ℕ) → List ℕ
+placed zero weight = []
+placed (suc n) weight = placed n weight ++ (weight n ∷ [])
 
 -- whether a number of the right form is accepted, by its total
 abbrev pub totalPasses : Kind → ℕ → Bool
@@ -46,13 +59,26 @@ lacking Mod97 t = belgianPair t
 lacking Luhn t = complement (luhn .modulus) t
 lacking Mod89 t = abnPair t
 
--- a number whose check digit is still to come, with a 0 for it
-abbrev pub withZero : Bool → List ℕ → List ℕ
-withZero true s = s ++ oneDigit 0
-withZero false s = s
+-- what the digit d adds by the weights of the places, with k digits and `after` more to come to its right
+abbrev pub addsFrom : ℕ → Bool → List ℕ → ℕ → ℕ → ℕ
+addsFrom after fold places k d = counted fold (getD places (k + after) 0 * d)
+
+-- the first place that has no digit
+abbrev pub noDigit : List ℕ → Fault
+noDigit s = wrong (classAt [] (code "#")) 0 s
 
 -- the form first, and then the total
 abbrev pub summed : Fault → ℕ → Sum
 summed Fits t = Of t
 summed Length t = Unfit Length
 summed (At k) t = Unfit (At k)
+
+-- LENGTH too where there are more digits than places
+unfoldable pub summedBy : Bool → List ℕ → Form → ℕ → List ℕ → Sum
+summedBy fold places form after s =
+    pick (leb (length s + after) (length places)) (summed (faultOf form s) (total (addsFrom after fold places) s)) (Unfit Length)
+
+-- a number whose check digit is still to come, with a 0 for it
+abbrev pub withZero : Bool → List ℕ → List ℕ
+withZero true s = s ++ oneDigit 0
+withZero false s = s

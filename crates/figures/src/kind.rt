@@ -1,17 +1,16 @@
 // The check figures by which bodies are completed and numbers corrected: how a digit counts, and what a total says.
 ghost use mathlib.Core.Path.{_≡_};
-ghost use mathlib.Core.Bool.{true};
-ghost use Prim.Native.Nat.{_+_, _-_, _*_, _≤_, _<_};
-ghost use lib.ListN.{length, drop};
-ghost use Rattle.ascii.specs.Class.{isDigit, all};
-ghost use Rattle.forms.specs.Form.{faultOf};
+ghost use mathlib.Core.List.{[], _∷_};
+ghost use mir.Val.{boolByte};
+ghost use Prim.Native.Nat.{_+_, _*_, _≤_};
+ghost use lib.ListN.{length, getD};
 ghost use Rattle.forms.specs.Table.{digits};
 ghost use Rattle.figures.specs.Total.{total};
-ghost use Rattle.figures.specs.Figures.{weightAt, counted, adds, totalBy, belgianPair};
-ghost use Rattle.figures.specs.Inner.{figureBy, totalPasses, lacking, summed, withZero, placed};
+ghost use Rattle.figures.specs.Figures.{weightAt, counted, belgianPair};
+ghost use Rattle.figures.specs.Inner.{figureBy, weightBy, placed, addsFrom, noDigit, summed, summedBy, totalPasses, lacking};
+use ascii::is_digit;
+use ascii::wide;
 use forms::Fault;
-use forms::digits;
-use forms::is_fit;
 
 // 0088, 0192, 0208, 0007, 0151.
 pub enum Kind {
@@ -35,8 +34,6 @@ pub(crate) const GLN_BEFORE: u32 = 3;
 
 pub(crate) const LUHN_BEFORE: u32 = 2;
 
-pub(crate) const MOD10: [u32; 2] = [LAST, GLN_BEFORE];
-
 pub(crate) const MOD11: [u32; 9] = [1, 2, 3, 4, 5, 6, 7, 2, 3];
 
 // The powers of ten: the total is the number itself.
@@ -53,8 +50,6 @@ pub(crate) const MOD97: [u32; 10] = [
     1000000000,
 ];
 
-pub(crate) const LUHN: [u32; 2] = [LAST, LUHN_BEFORE];
-
 pub(crate) const MOD89: [u32; 11] = [19, 17, 15, 13, 11, 9, 7, 5, 3, 1, 10];
 
 // The moduli.
@@ -64,39 +59,25 @@ pub(crate) const ELEVEN: u64 = 11;
 
 pub(crate) const ABN_MODULUS: u64 = 89;
 
-// The weight of a digit with k digits to its right: the table's, over and over.
-fn weight(weights: &[u32], k: usize) -> u32
-    ensures { λ r. ⌜ r ≡ weightAt (now (weights .entry)) k ⌝ }
+// Two weights in turn.
+fn in_turn(last: u32, before: u32) -> [u32; 20]
+    ensures { λ r. ⌜ r ≡ placed 20 (weightAt (last ∷ before ∷ [])) ⌝ }
 {
-    let n = weights.len();
-    if n == 2 {
+    let pair = [last, before];
+    let mut places = [0u32; 20];
+    let mut k: usize = 0;
+    while k < 20 {
         let odd = k % 2;
-        return weights[odd];
+        places[k] = pair[odd];
+        k += 1;
     }
-    if n == 0 {
-        return 0;
-    }
-    let round = k % n;
-    weights[round]
+    places
 }
 
-// The weights of the last 20 places of a number.
-pub fn weights_of(kind: Kind) -> [u32; 20]
-    ensures { λ r. ⌜ r ≡ placed 20 (figureBy kind .weights) ⌝ }
-{
-    match kind {
-        Kind::Mod10 => placed(kind, &MOD10),
-        Kind::Mod11 => placed(kind, &MOD11),
-        Kind::Mod97 => placed(kind, &MOD97),
-        Kind::Luhn => placed(kind, &LUHN),
-        Kind::Mod89 => placed(kind, &MOD89),
-    }
-}
-
-// The same by the figure's table.
-fn placed(kind: Kind, weights: &[u32]) -> [u32; 20]
-    requires { ⌜ now weights ≡ figureBy kind .weights ⌝ }
-    ensures { λ r. ⌜ r ≡ placed 20 (figureBy kind .weights) ⌝ }
+// The weights of a table.
+fn tabled(weights: &[u32]) -> [u32; 20]
+    requires { ⌜ length (now weights) ≤ 20 ⌝ }
+    ensures { λ r. ⌜ r ≡ placed 20 (λ k. getD (now (weights .entry)) k 0) ⌝ }
 {
     let n = weights.len();
     let mut places = [0u32; 20];
@@ -105,11 +86,20 @@ fn placed(kind: Kind, weights: &[u32]) -> [u32; 20]
         places[k] = weights[k];
         k += 1;
     }
-    while k < 20 {
-        places[k] = places[k - n];
-        k += 1;
-    }
     places
+}
+
+// The weights of 20 places, which is as many as a number has at most.
+pub fn weights_of(kind: Kind) -> [u32; 20]
+    ensures { λ r. ⌜ r ≡ placed 20 (weightBy kind) ⌝ }
+{
+    match kind {
+        Kind::Mod10 => in_turn(LAST, GLN_BEFORE),
+        Kind::Mod11 => tabled(&MOD11),
+        Kind::Mod97 => tabled(&MOD97),
+        Kind::Luhn => in_turn(LAST, LUHN_BEFORE),
+        Kind::Mod89 => tabled(&MOD89),
+    }
 }
 
 // Whether the digits of a product are added.
@@ -136,96 +126,43 @@ pub fn share(kind: Kind, w: u32, d: u8) -> u64
     p
 }
 
-// The total of digits by their figure's table over and over, with `after` zeros behind them.
-fn around(kind: Kind, weights: &[u32], s: &[u8], after: usize) -> u64
-    requires { ⌜ now weights ≡ figureBy kind .weights ⌝ ∗ ⌜ all isDigit (now s) ≡ true ⌝ ∗ ⌜ length (now s) ≤ 255 ⌝ ∗ ⌜ after ≤ 1 ⌝ }
-    ensures { λ r. ⌜ r ≡ total (λ j d. adds (figureBy kind .fold) (figureBy kind .weights) (j + after) d) (now (s .entry)) ⌝ }
+// The total of digits, with `after` more to come; or the first place that has no digit.
+fn added(kind: Kind, weights: &[u32], s: &[u8], after: usize) -> Sum
+    requires { ⌜ length (now s) + after ≤ length (now weights) ⌝ ∗ ⌜ length (now s) ≤ 255 ⌝ }
+    ensures { λ r. ⌜ r ≡ summed (noDigit (now (s .entry))) (total (addsFrom after (figureBy kind .fold) (now (weights .entry))) (now (s .entry))) ⌝ }
 {
     let n = s.len();
     let mut sum: u64 = 0;
     let mut i = 0;
     while i < n {
-        let k = n - 1 - i + after;
-        sum += share(kind, weight(weights, k), s[i] - 48);
-        i += 1;
+        let b = s[i];
+        if is_digit(wide(b)) {
+            let k = n - 1 - i + after;
+            sum += share(kind, weights[k], b - 48);
+            i += 1;
+        } else {
+            return Sum::Unfit(Fault::At(i));
+        }
     }
-    sum
+    Sum::Of(sum)
 }
 
-// What the digit adds that the weight at k is for; 0 where there is none.
-fn term(kind: Kind, weights: &[u32], s: &[u8], after: usize, k: usize) -> u64
-    requires { ⌜ now weights ≡ figureBy kind .weights ⌝ ∗ ⌜ all isDigit (now s) ≡ true ⌝ ∗ ⌜ k < length (now weights) ⌝ }
-    ensures { λ r. ⌜ (r ≤ 38654705664) × (total (λ j d. adds (figureBy kind .fold) (figureBy kind .weights) (j + after) d) (drop (length (now (s .entry)) + after - k) (now (s .entry))) + r ≡ total (λ j d. adds (figureBy kind .fold) (figureBy kind .weights) (j + after) d) (drop (length (now (s .entry)) + after - (k + 1)) (now (s .entry)))) ⌝ }
+// The total of least to most digits by the weights of their places; where a check digit is still to come, the last of these is for it.
+pub fn sum_of(kind: Kind, weights: &[u32], s: &[u8], least: u8, most: u8, pending: bool) -> Sum
+    ensures { λ r. ⌜ r ≡ summedBy (figureBy kind .fold) (now (weights .entry)) (digits least most) (boolByte pending) (now (s .entry)) ⌝ }
 {
-    if k < after {
-        return 0;
-    }
-    let j = k - after;
     let n = s.len();
-    if j < n {
-        let i = n - 1 - j;
-        return share(kind, weights[k], s[i] - 48);
+    let after = pending as usize;
+    if weights.len() < n + after {
+        return Sum::Unfit(Fault::Length);
     }
-    0
-}
-
-// The same for no more digits than the table has: weight by weight, so that the compiler knows how often and by what.
-fn within(kind: Kind, weights: &[u32], s: &[u8], after: usize) -> u64
-    requires { ⌜ now weights ≡ figureBy kind .weights ⌝ ∗ ⌜ all isDigit (now s) ≡ true ⌝ ∗ ⌜ length (now s) ≤ 255 ⌝ ∗ ⌜ after ≤ 1 ⌝ ∗ ⌜ length (now s) + after ≤ length (now weights) ⌝ }
-    ensures { λ r. ⌜ r ≡ total (λ j d. adds (figureBy kind .fold) (figureBy kind .weights) (j + after) d) (now (s .entry)) ⌝ }
-{
-    let n = weights.len();
-    let mut sum: u64 = 0;
-    let mut k = 0;
-    while k < n {
-        sum += term(kind, weights, s, after, k);
-        k += 1;
+    if n < (least as usize) {
+        return Sum::Unfit(Fault::Length);
     }
-    sum
-}
-
-fn added_by(kind: Kind, s: &[u8], after: usize) -> u64
-    requires { ⌜ all isDigit (now s) ≡ true ⌝ ∗ ⌜ length (now s) ≤ 255 ⌝ ∗ ⌜ after ≤ 1 ⌝ }
-    ensures { λ r. ⌜ r ≡ total (λ j d. adds (figureBy kind .fold) (figureBy kind .weights) (j + after) d) (now (s .entry)) ⌝ }
-{
-    let end = s.len() + after;
-    match kind {
-        Kind::Mod10 => around(kind, &MOD10, s, after),
-        Kind::Mod11 => {
-            if end <= 9 {
-                return within(kind, &MOD11, s, after);
-            }
-            around(kind, &MOD11, s, after)
-        }
-        Kind::Mod97 => {
-            if end <= 10 {
-                return within(kind, &MOD97, s, after);
-            }
-            around(kind, &MOD97, s, after)
-        }
-        Kind::Luhn => around(kind, &LUHN, s, after),
-        Kind::Mod89 => {
-            if end <= 11 {
-                return within(kind, &MOD89, s, after);
-            }
-            around(kind, &MOD89, s, after)
-        }
+    if (most as usize) < n {
+        return Sum::Unfit(Fault::Length);
     }
-}
-
-// The total of least to most digits; where a check digit is still to come, with a 0 for it.
-pub fn sum_of(kind: Kind, s: &[u8], least: u8, most: u8, pending: bool) -> Sum
-    ensures { λ r. ⌜ r ≡ summed (faultOf (digits least most) (now (s .entry))) (totalBy (figureBy kind) (withZero pending (now (s .entry)))) ⌝ }
-{
-    let fault = digits(s, least as usize, most as usize);
-    if is_fit(fault) {
-        if pending {
-            return Sum::Of(added_by(kind, s, 1));
-        }
-        // a second call, so that `added_by` stays a function of its own, and this one small
-        return Sum::Of(added_by(kind, s, 0));
-    }
-    Sum::Unfit(fault)
+    added(kind, weights, s, after)
 }
 
 // The pair of 0208: 97 less what the first eight digits leave by 97.

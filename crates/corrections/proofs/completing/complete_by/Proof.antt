@@ -4,6 +4,7 @@ use mathlib.Core.Bool.{true, false, not}
 use mathlib.Core.List.{List}
 use Prim.Native.Nat.{ℕ}
 use denote.Ref.{now}
+use mir.Val.{boolByte}
 use lib.ListN.{length}
 use Rattle.ascii.specs.Pick.{pick}
 use Rattle.answer.specs.Answers.{none, first}
@@ -13,9 +14,8 @@ use Rattle.forms.specs.declared.form.Fault.the-variants.{Fits}
 use Rattle.forms.specs.Table.{digits}
 use Rattle.forms.proofs.Meaning.{fault-fits}
 use Rattle.forms.proofs.OfDigits.{Digits, digits-fit}
-use Rattle.figures.specs.Figures.{totalBy}
 use Rattle.figures.specs.Completing.{oneDigit, twoDigits, checkFigure}
-use Rattle.figures.specs.Inner.{figureBy, lacking, withZero, summed}
+use Rattle.figures.specs.Inner.{figureBy, weightBy, placed, lacking, summed, summedBy}
 use Rattle.figures.proofs.Adding.{sum-means, unfit-means}
 use Rattle.corrections.specs.declared.five.Five.{Five}
 use Rattle.corrections.specs.declared.five.Row.{Row}
@@ -24,19 +24,28 @@ use Rattle.corrections.specs.Outcome.{Outcome, refusedWith, success, unl
 use Rattle.corrections.specs.Completing.{figureFor, noFigure, completedBy}
 use Rattle.corrections.specs.Inner.{whyNone}
 use Rattle.corrections.proofs.Outcomes.{works-refused, form-none, form-unmet, first-stops, room-short, room-enough}
-use Rattle.corrections.proofs.Checks.{bodyTotal, check, check-is, none-is, check-small, digit-small}
+use Rattle.corrections.proofs.Exact.{sum-is}
+use Rattle.corrections.proofs.Checks.{bodyTotal, body-room, check, check-is, none-is, check-small, digit-small}
 use borrow.Author.Needs.{needs}
 use Rattle.corrections.proofs.completing.complete_by.Statement.{statement}
 use Rattle.corrections.proofs.completing.complete_by.Tie as tie
 
--- the sum that was asked for, by the row of the scheme
 abbrev st : tie.After-sum-of → tie.Start
-st t = t .before .before .before .before .before
+st t = t .before .before .before .before .before .before .before
 
-sum-is : (t : tie.After-sum-of) → t .sum-of .result ≡ summed (faultOf (bodyForm (st t .args .kind)) (now (st t .args .body))) (bodyTotal (st t .args .kind) (now (st t .args .body)))
-sum-is t =
+abbrev told-row : tie.After-sum-of → tie.After-row
+told-row t = t .before .before .before .before
+
+-- the sum that was asked for, by the row of the scheme
+sum-of-body : (t : tie.After-sum-of) → t .sum-of .result ≡ summed (faultOf (bodyForm (st t .args .kind)) (now (st t .args .body))) (bodyTotal (st t .args .kind) (now (st t .args .body)))
+sum-of-body t =
+    let q = told-row t .row .result in
+    let k = st t .args .kind in
+    let body = now (st t .args .body) in
     t .sum-of .ensures
-    ∙ ap (λ (q : Row). summed (faultOf (digits (q .shortest) (q .longest)) (now (st t .args .body))) (totalBy (figureBy (q .figure)) (withZero (not (q .pair)) (now (st t .args .body))))) (t .before .before .row .ensures)
+    ∙ ap (λ ws. summedBy (figureBy (q .figure) .fold) ws (digits (q .shortest) (q .longest)) (boolByte (not (q .pair))) body) (t .before .before .before .weights-of .ensures)
+    ∙ ap (λ (r : Row). summedBy (figureBy (r .figure) .fold) (placed 20 (weightBy (r .figure))) (digits (r .shortest) (r .longest)) (boolByte (not (r .pair))) body) (told-row t .row .ensures)
+    ∙ sum-is k (not (row k .pair)) (row k .shortest) (row k .longest) body (body-room k)
 
 -- a body of the right form
 module _ (t : tie.After-known-told) where
@@ -50,13 +59,13 @@ module _ (t : tie.After-known-told) where
   body = now (st at .args .body)
 
   abbrev tell : Row
-  tell = at .before .before .row .result
+  tell = told-row at .row .result
 
   row-is : tell ≡ row k
-  row-is = at .before .before .row .ensures
+  row-is = told-row at .row .ensures
 
   parts : (faultOf (bodyForm k) body ≡ Fits) × (bodyTotal k body ≡ t .before .total .given .0 .0)
-  parts = sum-means _ _ (sym (sum-is at) ∙ t .before .total .given .1)
+  parts = sum-means _ _ (sym (sum-of-body at) ∙ t .before .total .given .1)
 
   formed : Digits (row k .shortest) (row k .longest) body
   formed = digits-fit (row k .shortest) (row k .longest) body (parts .0)
@@ -127,6 +136,12 @@ module _ (t : tie.After-number) (room : ℕ) where
 row-requires : tie.Need-row-requires
 row-requires c κs = search needs
 
+weights-of-requires : tie.Need-weights-of-requires
+weights-of-requires c κs = search needs
+
+slice-aggregate-sum-of : tie.Need-slice-aggregate-sum-of
+slice-aggregate-sum-of c = search needs
+
 sum-of-requires : tie.Need-sum-of-requires
 sum-of-requires c κs = search needs
 
@@ -144,7 +159,7 @@ unfolding completedBy fits
 returns c =
     let t = c .before .before .before in
     let f = bodyForm (st t .args .kind) in
-    works-refused _ _ (form-unmet f (now (st t .args .body)) _ _ (unfit-means (faultOf f (now (st t .args .body))) (bodyTotal (st t .args .kind) (now (st t .args .body))) (sym (sum-is t) ∙ c .before .enum-told .given .1))) (c .refused .ensures)
+    works-refused _ _ (form-unmet f (now (st t .args .body)) _ _ (unfit-means (faultOf f (now (st t .args .body))) (bodyTotal (st t .args .kind) (now (st t .args .body))) (sym (sum-of-body t) ∙ c .before .enum-told .given .1))) (c .refused .ensures)
 
 lacking-requires : tie.Need-lacking-requires
 lacking-requires c κs = search needs
@@ -206,6 +221,8 @@ complete-by-spec =
     tie.close
     (tie.spec
     row-requires
+    weights-of-requires
+    slice-aggregate-sum-of
     sum-of-requires
     enum-known-total
     enum-told

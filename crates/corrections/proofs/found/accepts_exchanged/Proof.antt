@@ -9,7 +9,8 @@ use Rattle.figures.specs.Total.{digitAt}
 use Rattle.figures.specs.Figures.{counted}
 use Rattle.figures.specs.Inner.{figureBy, totalPasses}
 use Rattle.figures.proofs.Adding.{share-small}
-use Rattle.corrections.proofs.Exact.{sharing, shared, places-20, number-digits, short-20, sum-small, shares-within, exchanged-test}
+use Rattle.corrections.specs.Five.{row}
+use Rattle.corrections.proofs.Exact.{sharing, shared, places-20, number-digits, short, sum-small, shares-within, exchanged-test}
 use native.Mathlib.Omega.{arith}
 use borrow.Author.Needs.{needs}
 use Rattle.corrections.proofs.found.accepts_exchanged.Statement.{statement}
@@ -25,19 +26,21 @@ digit a i l =
 abbrev st : tie.After-shared-slice-known6 → tie.Start
 st t = t .before .before .before .before .before .before .before
 
-short : (a : tie.Start) → (length (now (a .args .s)) ≤ 20) × (length (now (a .args .weights)) ≡ 20) × (a .args .i + 1 < length (now (a .args .s)))
-short a = (short-20 (a .args .kind) (now (a .args .s)) (a .args .sum) (a .pre .1 .0), places-20 (a .args .kind) (a .pre .0), a .pre .1 .1)
+inside : (a : tie.Start) → (length (now (a .args .s)) ≤ row (a .args .kind) .most) × (length (now (a .args .s)) ≤ 20) × (length (now (a .args .weights)) ≡ 20) × (a .args .i + 1 < length (now (a .args .s)))
+inside a =
+    let n = short (a .args .kind) (now (a .args .s)) (a .args .sum) (a .pre .1 .0) in
+    (n .0, n .1, places-20 (a .args .kind) (a .pre .0), a .pre .1 .1)
 
 -- what a digit adds at the two places, and how much that is at most
 module _ (t : tie.After-shared-slice-known6) (d r : ℕ) where
   far : r ≡ counted (figureBy (t .before .before .before .before .figure .result) .fold) (getD (now (st t .args .weights)) (length (now (st t .args .s)) - 1 - st t .args .i) 0 * d) → r ≡ sharing (st t .args .kind) (length (now (st t .args .s)) - 1 - st t .args .i) d
-  far h = shared (st t .args .kind) (t .before .before .before .before .figure .result) (now (st t .args .weights)) (length (now (st t .args .s)) - 1 - st t .args .i) d (t .before .before .before .before .figure .ensures) (st t .pre .0) (omega (arith, short (st t))) h
+  far h = shared (st t .args .kind) (t .before .before .before .before .figure .result) (now (st t .args .weights)) (length (now (st t .args .s)) - 1 - st t .args .i) d (t .before .before .before .before .figure .ensures) (st t .pre .0) (omega (arith, inside (st t))) h
 
   far-small : r ≡ counted (figureBy (t .before .before .before .before .figure .result) .fold) (getD (now (st t .args .weights)) (length (now (st t .args .s)) - 1 - st t .args .i) 0 * d) → d ≤ 9 → r ≤ 38654705664
   far-small h l = rw h (share-small (figureBy (t .before .before .before .before .figure .result) .fold) (getD (now (st t .args .weights)) (length (now (st t .args .s)) - 1 - st t .args .i) 0) d (omega (arith, t .shared-slice-known6 .given (length (now (st t .args .s)) - 1 - st t .args .i))) l)
 
   near : r ≡ counted (figureBy (t .before .before .before .before .figure .result) .fold) (getD (now (st t .args .weights)) (length (now (st t .args .s)) - 1 - (st t .args .i + 1)) 0 * d) → r ≡ sharing (st t .args .kind) (length (now (st t .args .s)) - 1 - (st t .args .i + 1)) d
-  near h = shared (st t .args .kind) (t .before .before .before .before .figure .result) (now (st t .args .weights)) (length (now (st t .args .s)) - 1 - (st t .args .i + 1)) d (t .before .before .before .before .figure .ensures) (st t .pre .0) (omega (arith, short (st t))) h
+  near h = shared (st t .args .kind) (t .before .before .before .before .figure .result) (now (st t .args .weights)) (length (now (st t .args .s)) - 1 - (st t .args .i + 1)) d (t .before .before .before .before .figure .ensures) (st t .pre .0) (omega (arith, inside (st t))) h
 
   near-small : r ≡ counted (figureBy (t .before .before .before .before .figure .result) .fold) (getD (now (st t .args .weights)) (length (now (st t .args .s)) - 1 - (st t .args .i + 1)) 0 * d) → d ≤ 9 → r ≤ 38654705664
   near-small h l = rw h (share-small (figureBy (t .before .before .before .before .figure .result) .fold) (getD (now (st t .args .weights)) (length (now (st t .args .s)) - 1 - (st t .args .i + 1)) 0) d (omega (arith, t .shared-slice-known6 .given (length (now (st t .args .s)) - 1 - (st t .args .i + 1)))) l)
@@ -93,16 +96,16 @@ sub-k-2 : tie.Need-sub-k-2
 sub-k-2 c = search needs
 
 mul-v : tie.Need-mul-v
-mul-v c = omega (arith, short (c .before .before .before .before .before))
+mul-v c = omega (arith, inside (c .before .before .before .before .before))
 
 shared-slice-read-v : tie.Need-shared-slice-read-v
-shared-slice-read-v c = omega (arith, short (c .before .before .before .before .before .before))
+shared-slice-read-v c = omega (arith, inside (c .before .before .before .before .before .before))
 
 mul-w : tie.Need-mul-w
-mul-w c = omega (arith, short (c .before .before .before .before .before .before))
+mul-w c = omega (arith, inside (c .before .before .before .before .before .before))
 
 shared-slice-read-w : tie.Need-shared-slice-read-w
-shared-slice-read-w c = omega (arith, short (c .before .before .before .before .before .before .before))
+shared-slice-read-w c = omega (arith, inside (c .before .before .before .before .before .before .before))
 
 share-requires : tie.Need-share-requires
 share-requires c κs = search needs

@@ -12,9 +12,9 @@ use Rattle.figures.specs.Figures.{counted}
 use Rattle.figures.specs.Inner.{figureBy, totalPasses}
 use Rattle.figures.proofs.Adding.{share-small}
 use Rattle.rules.specs.Finding.{accepts}
-use Rattle.corrections.specs.Five.{ruleOf}
+use Rattle.corrections.specs.Five.{row, ruleOf}
 use Rattle.corrections.specs.Corrections.{replaced}
-use Rattle.corrections.proofs.Exact.{sharing, shared, places-20, number-digits, short-20, sum-small, share-within, replaced-test}
+use Rattle.corrections.proofs.Exact.{sharing, shared, places-20, number-digits, short, sum-small, share-within, replaced-test}
 use Rattle.corrections.proofs.Fixes.{fixes-hit, fixes-none}
 use native.Mathlib.Omega.{arith}
 use borrow.Author.Needs.{needs}
@@ -34,13 +34,13 @@ st t = t .before .before .before .before .before .before
 abbrev place : tie.After-share Inv-loop μ-loop → ℕ
 place t = length (now (st t .args .s)) - 1 - st t .args .i
 
-place-20 : (t : tie.After-share Inv-loop μ-loop) → place t < 20
-place-20 t = omega (arith, short-20 (st t .args .kind) (now (st t .args .s)) (st t .args .sum) (st t .pre .1 .0), st t .pre .1 .1)
+in-number : (t : tie.After-share Inv-loop μ-loop) → place t < row (st t .args .kind) .most
+in-number t = omega (arith, short (st t .args .kind) (now (st t .args .s)) (st t .args .sum) (st t .pre .1 .0), st t .pre .1 .1)
 
 was-is : (t : tie.After-share Inv-loop μ-loop) → t .share .result ≡ sharing (st t .args .kind) (place t) (digitAt (now (st t .args .s)) (st t .args .i))
 was-is t =
     shared (st t .args .kind) (t .before .before .before .figure .result) (now (st t .args .weights)) (place t) (digitAt (now (st t .args .s)) (st t .args .i))
-    (t .before .before .before .figure .ensures) (st t .pre .0) (place-20 t) (t .share .ensures)
+    (t .before .before .before .figure .ensures) (st t .pre .0) (in-number t) (t .share .ensures)
 
 -- what the code tests is what the rule says
 module _ (u : tie.After-share Inv-loop μ-loop) (d : ℕ) where
@@ -53,7 +53,7 @@ module _ (u : tie.After-share Inv-loop μ-loop) (d : ℕ) where
       let f = u .before .before .before .figure in
       ap (λ x. totalPasses x (st u .args .sum - u .share .result + new)) (f .ensures)
       ∙ replaced-test (st u .args .kind) (now (st u .args .s)) (st u .args .sum) (st u .pre .1 .0) (st u .args .i) (u .share .result) (st u .pre .1 .1) (was-is u) d new l
-      (shared (st u .args .kind) (f .result) (now (st u .args .weights)) (place u) d (f .ensures) (st u .pre .0) (place-20 u) refl)
+      (shared (st u .args .kind) (f .result) (now (st u .args .weights)) (place u) d (f .ensures) (st u .pre .0) (in-number u) refl)
 
 -- what the loop's test found
 found : (t : tie.After-passes Inv-loop μ-loop)
@@ -74,12 +74,12 @@ sub-k-2 c = search needs
 mul-w : tie.Need-mul-w Inv-loop μ-loop
 mul-w c =
     let a = c .before .before .before in
-    omega (arith, short-20 (a .args .kind) (now (a .args .s)) (a .args .sum) (a .pre .1 .0))
+    omega (arith, short (a .args .kind) (now (a .args .s)) (a .args .sum) (a .pre .1 .0))
 
 shared-slice-read-w : tie.Need-shared-slice-read-w Inv-loop μ-loop
 shared-slice-read-w c =
     let a = c .before .before .before .before in
-    omega (arith, short-20 (a .args .kind) (now (a .args .s)) (a .args .sum) (a .pre .1 .0), places-20 (a .args .kind) (a .pre .0), a .pre .1 .1)
+    omega (arith, short (a .args .kind) (now (a .args .s)) (a .args .sum) (a .pre .1 .0), places-20 (a .args .kind) (a .pre .0), a .pre .1 .1)
 
 shared-slice-read-share : tie.Need-shared-slice-read-share Inv-loop μ-loop
 shared-slice-read-share c = search needs

@@ -1,6 +1,6 @@
 -- `corrections::listing::list_text` meets its contract.
 use mathlib.Core.Path.{_≡_, _∙_, sym, ap}
-use mathlib.Core.Bool.{Bool}
+use mathlib.Core.Bool.{false}
 use Prim.Native.Nat.{ℕ, _≤_}
 use denote.Ref.{now}
 use lib.ListN.{length}
@@ -8,15 +8,15 @@ use Rattle.forms.specs.Form.{faultOf}
 use Rattle.forms.specs.Table.{digits}
 use Rattle.figures.specs.declared.kind.Sum.{Sum}
 use Rattle.figures.specs.Figures.{totalBy}
-use Rattle.figures.specs.Inner.{figureBy, placed, totalPasses, summed}
+use Rattle.figures.specs.Inner.{figureBy, weightBy, placed, totalPasses, summed, summedBy}
 use Rattle.figures.proofs.Adding.{sum-means, unfit-means}
 use Rattle.rules.specs.Finding.{accepts}
 use Rattle.corrections.specs.declared.five.Row.{Row}
 use Rattle.corrections.specs.Five.{row, ruleOf, numberForm}
 use Rattle.corrections.specs.Listing.{entriesOf}
-use Rattle.corrections.specs.Inner.{addsBy, Summed}
+use Rattle.corrections.specs.Inner.{addsBy, placesOf, Summed}
 use Rattle.corrections.proofs.Areas.{small-joined}
-use Rattle.corrections.proofs.Exact.{lengths, number-digits, number-passes}
+use Rattle.corrections.proofs.Exact.{sum-is, lengths, number-digits, number-passes}
 use Rattle.corrections.proofs.Outcomes.{works-refused, room-short}
 use Rattle.corrections.proofs.Rows.{listed-unfit, listed-good, listed-wrong, entries-done}
 use native.Mathlib.Omega.{arith}
@@ -24,20 +24,31 @@ use borrow.Author.Needs.{needs}
 use Rattle.corrections.proofs.listing.list_text.Statement.{statement}
 use Rattle.corrections.proofs.listing.list_text.Tie as tie
 
--- the sum that was asked for, by the row of the scheme
 abbrev st : tie.After-sum-of → tie.Start
-st t = t .before .before .before .before
+st t = t .before .before .before .before .before .before
 
-sum-is : (t : tie.After-sum-of) → t .sum-of .result ≡ summed (faultOf (numberForm (st t .args .kind)) (now (st t .args .s))) (totalBy (addsBy (st t .args .kind)) (now (st t .args .s)))
-sum-is t =
+abbrev told-row : tie.After-sum-of → tie.After-row
+told-row t = t .before .before .before
+
+-- the weights and the sum that were asked for, by the row of the scheme
+weights-are : (t : tie.After-sum-of) → t .before .before .weights-of .result ≡ placesOf (st t .args .kind)
+weights-are t = t .before .before .weights-of .ensures ∙ ap (λ (q : Row). placed 20 (weightBy (q .figure))) (told-row t .row .ensures)
+
+sum-of-number : (t : tie.After-sum-of) → t .sum-of .result ≡ summed (faultOf (numberForm (st t .args .kind)) (now (st t .args .s))) (totalBy (addsBy (st t .args .kind)) (now (st t .args .s)))
+sum-of-number t =
+    let q = told-row t .row .result in
+    let k = st t .args .kind in
+    let s = now (st t .args .s) in
     t .sum-of .ensures
-    ∙ ap (λ (q : Row). summed (faultOf (digits (q .least) (q .most)) (now (st t .args .s))) (totalBy (figureBy (q .figure)) (now (st t .args .s)))) (t .before .row .ensures)
+    ∙ ap (λ ws. summedBy (figureBy (q .figure) .fold) ws (digits (q .least) (q .most)) 0 s) (weights-are t)
+    ∙ ap (λ (r : Row). summedBy (figureBy (r .figure) .fold) (placesOf k) (digits (r .least) (r .most)) 0 s) (told-row t .row .ensures)
+    ∙ sum-is k false (row k .least) (row k .most) s (omega arith)
 
 abbrev at : tie.After-known-told → tie.After-sum-of
 at t = t .before .before .before
 
 formed : (t : tie.After-known-told) → Summed (st (at t) .args .kind) (now (st (at t) .args .s)) (t .before .sum .given .0 .0)
-formed t = let m = sum-means _ _ (sym (sum-is (at t)) ∙ t .before .sum .given .1) in record { formed = m .0; sum-is = sym (m .1) }
+formed t = let m = sum-means _ _ (sym (sum-of-number (at t)) ∙ t .before .sum .given .1) in record { formed = m .0; sum-is = sym (m .1) }
 
 short : (t : tie.After-known-told) → (1 ≤ length (now (st (at t) .args .s))) × (length (now (st (at t) .args .s)) ≤ 20)
 short t =
@@ -48,11 +59,17 @@ short t =
 accepted : (t : tie.After-passes) → t .passes .result ≡ accepts (ruleOf (st (at (t .before)) .args .kind)) (now (st (at (t .before)) .args .s))
 accepted t =
     t .passes .ensures
-    ∙ ap (λ (q : Row). totalPasses (q .figure) (t .before .before .sum .given .0 .0)) (t .before .before .before .before .before .row .ensures)
+    ∙ ap (λ (q : Row). totalPasses (q .figure) (t .before .before .sum .given .0 .0)) (told-row (at (t .before)) .row .ensures)
     ∙ number-passes _ _ _ (formed (t .before))
 
 row-requires : tie.Need-row-requires
 row-requires c κs = search needs
+
+weights-of-requires : tie.Need-weights-of-requires
+weights-of-requires c κs = search needs
+
+slice-aggregate-sum-of : tie.Need-slice-aggregate-sum-of
+slice-aggregate-sum-of c = search needs
 
 sum-of-requires : tie.Need-sum-of-requires
 sum-of-requires c κs = search needs
@@ -69,7 +86,7 @@ refused-requires c κs = search needs
 returns : tie.Need-returns
 returns c =
     let t = c .before .before .before in
-    works-refused _ _ (listed-unfit (st t .args .kind) (now (st t .args .s)) _ (unfit-means (faultOf (numberForm (st t .args .kind)) (now (st t .args .s))) (totalBy (addsBy (st t .args .kind)) (now (st t .args .s))) (sym (sum-is t) ∙ c .before .enum-told .given .1))) (c .refused .ensures)
+    works-refused _ _ (listed-unfit (st t .args .kind) (now (st t .args .s)) _ (unfit-means (faultOf (numberForm (st t .args .kind)) (now (st t .args .s))) (totalBy (addsBy (st t .args .kind)) (now (st t .args .s))) (sym (sum-of-number t) ∙ c .before .enum-told .given .1))) (c .refused .ensures)
 
 passes-requires : tie.Need-passes-requires
 passes-requires c κs = search needs
@@ -102,29 +119,26 @@ returns-3 c =
     let a = st (at t) in
     works-refused _ _ (listed-wrong (a .args .kind) (now (a .args .s)) _ (formed t .formed) (sym (accepted (c .before .before .before)) ∙ c .before .before .if1 .left) ∙ room-short _ _ _ (c .before .if2 .taken)) (c .refused3 .ensures)
 
-weights-of-requires : tie.Need-weights-of-requires
-weights-of-requires c κs = search needs
-
 slice-aggregate-put-corrections : tie.Need-slice-aggregate-put-corrections
 slice-aggregate-put-corrections c = search needs
 
 put-corrections-requires : tie.Need-put-corrections-requires
 put-corrections-requires c κs =
-    let t = c .before .before .before .before .before .before in
-    (c .before .before .weights-of .ensures ∙ ap (λ (q : Row). placed 20 (figureBy (q .figure) .weights)) (at t .before .row .ensures), (formed t, c .before .before .before .if2 .left))
+    let t = c .before .before .before .before .before in
+    (weights-are (at t), (formed t, c .before .before .if2 .left))
 
-div-t14 : tie.Need-div-t14
-div-t14 c = omega (arith, short (c .before .before .before .before .before .before .before .before .before) .0)
+div-count : tie.Need-div-count
+div-count c = omega (arith, short (c .before .before .before .before .before .before .before .before) .0)
 
 same-length : tie.Need-same-length
 same-length c = search needs
 
 returns-4 : tie.Need-returns-4
 returns-4 c =
-    let t = c .before .before .before .before .before .before .before .before .before in
+    let t = c .before .before .before .before .before .before .before .before in
     let a = st (at t) in
-    rw (listed-wrong (a .args .kind) (now (a .args .s)) (entriesOf (a .args .kind) (now (a .args .s)) (length (now (a .args .out)))) (formed t .formed) (sym (accepted (c .before .before .before .before .before .before .before .before)) ∙ c .before .before .before .before .before .before .before .if1 .left))
-    (entries-done (a .args .kind) (now (a .args .s)) _ _ _ _ (c .before .before .before .before .before .before .if2 .left) (short t .0) (c .before .before .put-corrections .ensures))
+    rw (listed-wrong (a .args .kind) (now (a .args .s)) (entriesOf (a .args .kind) (now (a .args .s)) (length (now (a .args .out)))) (formed t .formed) (sym (accepted (c .before .before .before .before .before .before .before)) ∙ c .before .before .before .before .before .before .if1 .left))
+    (entries-done (a .args .kind) (now (a .args .s)) _ _ _ _ (c .before .before .before .before .before .if2 .left) (short t .0) (c .before .before .put-corrections .ensures))
 
 pub list-text-spec : {M : Type 1} → statement M
-list-text-spec = tie.close (tie.spec row-requires sum-of-requires enum-known-sum enum-told refused-requires returns passes-requires refused-requires-2 returns-2 mul-if2 sub-if2 mul-if2-2 refused-requires-3 returns-3 weights-of-requires slice-aggregate-put-corrections put-corrections-requires div-t14 same-length returns-4)
+list-text-spec = tie.close (tie.spec row-requires weights-of-requires slice-aggregate-sum-of sum-of-requires enum-known-sum enum-told refused-requires returns passes-requires refused-requires-2 returns-2 mul-if2 sub-if2 mul-if2-2 refused-requires-3 returns-3 slice-aggregate-put-corrections put-corrections-requires div-count same-length returns-4)

@@ -1,59 +1,49 @@
 -- `figures::kind::sum_of` meets its contract. Assumes nothing.
-use mathlib.Core.Path.{_≡_, sym, ap, _∙_}
+use mathlib.Core.Path.{_≡_, sym, _∙_}
 use mathlib.Core.Bool.{Bool, true, false}
+use Prim.Native.Nat.{ℕ, _≤_}
 use native.Mathlib.Omega.{arith}
-use denote.Ref.{now}
-use Rattle.forms.proofs.OfDigits.{digits-fit}
-use Rattle.figures.specs.Figures.{adds, totalBy}
-use Rattle.figures.specs.Inner.{figureBy, withZero}
-use Rattle.figures.proofs.Judging.{fitted}
-use Rattle.figures.proofs.Adding.{with-pending, adds-zero, sum-fit, sum-unfit}
 use borrow.Author.Needs.{needs}
+use denote.Ref.{now}
+use mir.Val.{boolByte}
+use Rattle.forms.specs.Form.{Form}
+use Rattle.forms.specs.Table.{digits}
+use Rattle.forms.proofs.Laws.{fault-short, fault-long, fault-inside}
+use Rattle.figures.proofs.Adding.{sum-by, sum-length, sum-over, sum-room}
 use Rattle.figures.proofs.kind.sum_of.Statement.{statement}
 use Rattle.figures.proofs.kind.sum_of.Tie as tie
 
-digits-requires : tie.Need-digits-requires
-digits-requires c κs = search needs
+one : (p : Bool) → boolByte p ≤ 1
+one true = omega arith
+one false = omega arith
 
-is-fit-requires : tie.Need-is-fit-requires
-is-fit-requires c κs = search needs
+abbrev form : tie.Start → Form
+form a = digits (a .args .least) (a .args .most)
 
-added-by-requires : tie.Need-added-by-requires
-added-by-requires c κs =
-    let b = c .before in
-    let a = b .before .before .before .before .args in
-    let d = digits-fit (a .least) (a .most) (now (a .s)) (fitted _ (b .before .is-fit .ensures) (b .before .before .digits .ensures) (b .if1 .taken)) in
-    (d .digit, (omega (arith, d .most), omega arith))
-
-added-by-requires-2 : tie.Need-added-by-requires-2
-added-by-requires-2 c κs =
-    let b = c .before in
-    let a = b .before .before .before .before .args in
-    let d = digits-fit (a .least) (a .most) (now (a .s)) (fitted _ (b .before .is-fit .ensures) (b .before .before .digits .ensures) (b .if1 .taken)) in
-    (d .digit, (omega (arith, d .most), omega arith))
+add-if1 : tie.Need-add-if1
+add-if1 c = omega (arith, one (c .before .before .args .pending))
 
 returns : tie.Need-returns
-returns c =
-    let b = c .before .before in
-    let a = b .before .before .before .before .args in
-    let f = figureBy (a .kind) in
-    sum-fit (fitted _ (b .before .is-fit .ensures) (b .before .before .digits .ensures) (b .if1 .taken))
-    (c .added-by .ensures ∙ with-pending (adds (f .fold) (f .weights)) (now (a .s)) true (adds-zero (f .fold) (f .weights) 0)
-    ∙ ap (λ (t : Bool). totalBy f (withZero t (now (a .s)))) (sym (c .before .if2 .taken)))
+returns c = sum-over _ _ _ _ _ (c .if1 .taken)
 
 returns-2 : tie.Need-returns-2
 returns-2 c =
-    let b = c .before .before in
-    let a = b .before .before .before .before .args in
-    let f = figureBy (a .kind) in
-    sum-fit (fitted _ (b .before .is-fit .ensures) (b .before .before .digits .ensures) (b .if1 .taken))
-    (c .added-by2 .ensures ∙ with-pending (adds (f .fold) (f .weights)) (now (a .s)) false (adds-zero (f .fold) (f .weights) 0)
-    ∙ ap (λ (t : Bool). totalBy f (withZero t (now (a .s)))) (sym (c .before .if2 .left)))
+    let a = c .before .before .before .before in
+    sum-length _ (fault-short (form a) (now (a .args .s)) (c .if2 .taken)) ∙ sym (sum-room _ _ _ _ _ (c .before .if1 .left))
 
 returns-3 : tie.Need-returns-3
-returns-3 c = sum-unfit _ _ (c .before .is-fit .ensures) (c .before .before .digits .ensures) (c .if1 .left)
+returns-3 c =
+    let a = c .before .before .before .before .before in
+    sum-length _ (fault-long (form a) (now (a .args .s)) (c .if3 .taken)) ∙ sym (sum-room _ _ _ _ _ (c .before .before .if1 .left))
+
+added-requires : tie.Need-added-requires
+added-requires c κs = search needs
+
+returns-4 : tie.Need-returns-4
+returns-4 c =
+    let a = c .before .before .before .before .before .before in
+    sum-by _ (c .added .ensures) (sym (fault-inside (form a) (now (a .args .s)) (c .before .before .if2 .left) (c .before .if3 .left)))
+    ∙ sym (sum-room _ _ _ _ _ (c .before .before .before .if1 .left))
 
 pub sum-of-spec : {M : Type 1} → statement M
-sum-of-spec =
-    tie.close
-    (tie.spec digits-requires is-fit-requires added-by-requires returns added-by-requires-2 returns-2 returns-3)
+sum-of-spec = tie.close (tie.spec (λ c. search needs) add-if1 returns returns-2 returns-3 added-requires returns-4)
