@@ -22,7 +22,7 @@ use Rattle.rules.specs.Choice.{byScheme, atTerm, ruleFor}
 use Rattle.rules.specs.Finding.{accepts, isItalian, isDutch}
 use Rattle.accounts.specs.Spelled.{letterValue, valueOf, written, spell, spelled, remainder}
 use Rattle.accounts.specs.Rules.{ibanFinding}
-use Rattle.rules.specs.Reading.{foundIn}
+use Rattle.checks.specs.Reading.{foundIn}
 use Rattle.checks.specs.Check.{findingBy, answerBy, checkOf, ibanAnswer}
 use Rattle.ascii.specs.Area.{joined}
 use Rattle.corrections.specs.Five.{fiveOf}

@@ -12,7 +12,8 @@ use Rattle.rules.specs.declared.choice.Chosen.the-variants.{By, NoRule, NoTerm}
 use Rattle.rules.specs.Facts.{facts}
 use Rattle.rules.specs.Choice.{ruleFor}
 use Rattle.rules.proofs.Every.{number-small}
-use Rattle.checks.specs.Check.{answered, answerBy, onChosen, checkOf}
+use Rattle.checks.specs.Reading.{answered}
+use Rattle.checks.specs.Check.{answerBy, onChosen, checkOf}
 
 pub one-answer : (scheme : List ℕ) (term : ℕ) (content : List ℕ) (a b : Answer) → a ≡ checkOf scheme term content → b ≡ checkOf scheme term content → a ≡ b
 one-answer scheme term content a b e f = e ∙ sym f

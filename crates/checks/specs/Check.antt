@@ -7,31 +7,20 @@ use Rattle.answer.specs.declared.record.Answer.{Answer}
 use Rattle.answer.specs.declared.reason.Reason.the-variants.{Term}
 use Rattle.answer.specs.declared.severity.Severity.{Severity}
 use Rattle.answer.specs.declared.severity.Severity.the-variants.{NoSeverity}
-use Rattle.answer.specs.Answers.{accepted, unread, noRule, refused}
+use Rattle.answer.specs.Answers.{noRule, refused}
 use Rattle.text.specs.declared.reading.Reading.the-variants.{AsItStands, Stripped}
 use Rattle.figures.specs.declared.finding.Finding.{Finding}
-use Rattle.figures.specs.declared.finding.Finding.the-variants.{Good, Through, Zero, Wrong, Unfit, Unreadable}
-use Rattle.figures.specs.Findings.{reasonOf}
 use Rattle.rules.specs.declared.rule.Rule.{Rule}
 use Rattle.rules.specs.declared.choice.Chosen.{Chosen}
 use Rattle.rules.specs.declared.choice.Chosen.the-variants.{By, NoRule, NoTerm}
 use Rattle.rules.specs.Facts.{facts}
 use Rattle.rules.specs.Choice.{ruleFor}
 use Rattle.rules.specs.Finding.{finding}
-use Rattle.rules.specs.Reading.{foundIn}
 use Rattle.accounts.specs.Rules.{ibanFinding, creditorFinding}
 use Rattle.guard.specs.Gln.{strictGln}
 use Rattle.checks.specs.declared.judge.Judge.{Judge}
 use Rattle.checks.specs.declared.judge.Judge.the-variants.{ByRule, Iban, Creditor}
-
--- the answer to a finding, with a rule's number and its severity
-abbrev pub answered : ℕ → Severity → Finding → Answer
-answered n s Good = accepted n s
-answered n s Through = unread n s
-answered n s Zero = refused n s (reasonOf Zero)
-answered n s Wrong = refused n s (reasonOf Wrong)
-answered n s (Unfit fault) = refused n s (reasonOf (Unfit fault))
-answered n s (Unreadable why) = refused n s (reasonOf (Unreadable why))
+use Rattle.checks.specs.Reading.{foundIn, answered}
 
 -- what a judge finds in a text
 unfoldable pub findingBy : Judge → List ℕ → Finding

@@ -1,7 +1,8 @@
 // What judges a text, and the answer to a finding.
 ghost use mathlib.Core.Path.{_≡_};
 ghost use Rattle.rules.specs.Finding.{finding};
-ghost use Rattle.checks.specs.Check.{answered, findingBy};
+ghost use Rattle.checks.specs.Reading.{answered};
+ghost use Rattle.checks.specs.Check.{findingBy};
 use answer::Answer;
 use answer::Reason;
 use answer::Severity;

@@ -28,7 +28,7 @@ use Rattle.corrections.specs.Five.{ruleOf, numberForm, bodyForm, fiveOf}
 use Rattle.corrections.specs.Outcome.{Outcome, Works, refusedWith, unless, forFive, formReason, roomReason}
 use Rattle.corrections.specs.Completing.{noFigure, completedBy, completing}
 use Rattle.corrections.specs.Corrections.{corrections}
-use Rattle.rules.specs.Reading.{foundIn}
+use Rattle.checks.specs.Reading.{foundIn}
 use Rattle.corrections.specs.Listing.{numberFound, roomFor, entriesOf, listedBy, listedFor, listing}
 use Rattle.corrections.specs.Meaning.{Listed, CompletedAs}
 use Rattle.corrections.proofs.Outcomes.{unless-none}

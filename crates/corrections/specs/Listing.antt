@@ -14,7 +14,7 @@ use Rattle.rules.specs.Finding.{accepts}
 use Rattle.corrections.specs.declared.five.Five.{Five}
 use Rattle.corrections.specs.Five.{ruleOf, numberForm, fiveOf}
 use Rattle.corrections.specs.Outcome.{Outcome, refusedWith, success, unless, forFive, roomReason}
-use Rattle.rules.specs.Reading.{foundIn}
+use Rattle.checks.specs.Reading.{foundIn}
 use Rattle.corrections.specs.Corrections.{corrections}
 
 -- a number to list: its form, and then whether its rule accepts it

@@ -1,10 +1,10 @@
 // Many lines at once, answered in an area of numbers, which is shown whole.
 ghost use Prim.Native.Nat.{_≤_};
-use super::show::number;
-use super::split::at_most;
-use super::split::behind;
-use super::split::decimal;
-use super::split::word_end;
+use shown::at_most;
+use shown::behind;
+use shown::decimal;
+use shown::number;
+use shown::word_end;
 
 fn show_number(n: u32) {
     number(n as u64);
@@ -32,8 +32,8 @@ fn show_in(room: usize, text: &[u8])
 
 // The room and the text, parted by a space.
 pub(crate) fn show_batch(field: &[u8]) {
-    let room_end = word_end(field, 0);
-    let start = behind(field, room_end);
+    let room_end = word_end(field);
+    let start = behind(field);
     let n = field.len();
     let room = at_most(decimal(&field[0..room_end]), 64);
     show_in(room, &field[start..n]);

@@ -60,29 +60,3 @@ pub(crate) fn unescape(s: &[u8], out: &mut [u8; 2048]) -> usize
     }
     n
 }
-
-// A byte as it is written: itself where it is plain ASCII, else escaped.
-fn show_byte(b: u8) {
-    let shown = [b; 1];
-    if b < 0x20 {
-        io::write_all(1, b"\\");
-        io::print_hex(1, b as u64, 2);
-        return;
-    }
-    if b < 0x7f {
-        if b != b'\\' {
-            io::write_all(1, &shown);
-            return;
-        }
-    }
-    io::write_all(1, b"\\");
-    io::print_hex(1, b as u64, 2);
-}
-
-pub(crate) fn show(s: &[u8]) {
-    let mut i: usize = 0;
-    while i < s.len() {
-        show_byte(s[i]);
-        i += 1;
-    }
-}

@@ -6,8 +6,6 @@ ghost use lib.ListN.{length};
 mod batch;
 mod commands;
 mod escape;
-mod show;
-mod split;
 mod work;
 
 use libc::STDIN_FILENO;

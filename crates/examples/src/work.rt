@@ -1,13 +1,13 @@
 // Completing and listing, in an area of dots, which is shown whole.
 ghost use Prim.Native.Nat.{_≤_};
-use super::escape::show;
-use super::show::number;
-use super::split::at_most;
-use super::split::behind;
-use super::split::decimal;
-use super::split::word_end;
 use corrections::Done;
 use libc::STDOUT_FILENO;
+use shown::at_most;
+use shown::behind;
+use shown::decimal;
+use shown::number;
+use shown::show;
+use shown::word_end;
 
 fn show_done(done: Done, area: &[u8]) {
     let reason = done.reason;
@@ -36,16 +36,13 @@ fn show_in(command: u8, room: usize, scheme: &[u8], content: &[u8])
 
 // The room, the scheme and the content, parted by spaces.
 pub(crate) fn show_work(command: u8, field: &[u8]) {
-    let room_end = word_end(field, 0);
-    let scheme_start = behind(field, room_end);
-    let scheme_end = word_end(field, scheme_start);
-    let start = behind(field, scheme_end);
+    let room_end = word_end(field);
+    let start = behind(field);
     let n = field.len();
     let room = at_most(decimal(&field[0..room_end]), 1024);
-    show_in(
-        command,
-        room,
-        &field[scheme_start..scheme_end],
-        &field[start..n],
-    );
+    let rest = &field[start..n];
+    let scheme_end = word_end(rest);
+    let content = behind(rest);
+    let m = rest.len();
+    show_in(command, room, &rest[0..scheme_end], &rest[content..m]);
 }

@@ -6,8 +6,9 @@ use Rattle.answer.proofs.Laws.{is-none, is-given}
 use Rattle.text.specs.declared.reading.Reading.the-variants.{AsItStands}
 use Rattle.figures.specs.declared.finding.Finding.the-variants.{Unreadable}
 use Rattle.guard.specs.Gln.{strictGln}
-use Rattle.checks.specs.Check.{answered, easAnswer}
-use Rattle.rules.proofs.Found.{found-read, found-unread}
+use Rattle.checks.specs.Reading.{answered}
+use Rattle.checks.specs.Check.{easAnswer}
+use Rattle.checks.proofs.Found.{found-read, found-unread}
 use borrow.Author.Needs.{needs}
 use Rattle.checks.proofs.answers.eas_value.Statement.{statement}
 use Rattle.checks.proofs.answers.eas_value.Tie as tie

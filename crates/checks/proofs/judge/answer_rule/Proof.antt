@@ -5,7 +5,7 @@ use Prim.Native.Nat.{_-_}
 use lib.ListN.{length}
 use lib.Seq.{take-all}
 use Rattle.rules.specs.Finding.{finding}
-use Rattle.checks.specs.Check.{answered}
+use Rattle.checks.specs.Reading.{answered}
 use native.Mathlib.Omega.{arith}
 use borrow.Author.Needs.{needs}
 use Rattle.checks.proofs.judge.answer_rule.Statement.{statement}

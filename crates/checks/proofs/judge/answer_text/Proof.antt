@@ -1,7 +1,8 @@
 -- `checks::judge::answer_text` meets its contract.
 use mathlib.Core.Path.{ap, _∙_}
 use Rattle.checks.specs.declared.judge.Judge.the-variants.{ByRule, Iban, Creditor}
-use Rattle.checks.specs.Check.{answered, findingBy}
+use Rattle.checks.specs.Reading.{answered}
+use Rattle.checks.specs.Check.{findingBy}
 use Rattle.checks.proofs.Judges.{by-judge}
 use borrow.Author.Needs.{needs}
 use Rattle.checks.proofs.judge.answer_text.Statement.{statement}

@@ -5,7 +5,7 @@ use Rattle.answer.specs.declared.record.Answer.{Answer}
 use Rattle.answer.specs.declared.severity.Severity.{Severity}
 use Rattle.figures.specs.declared.finding.Finding.{Finding}
 use Rattle.figures.specs.declared.finding.Finding.the-variants.{Good, Through, Zero, Wrong, Unfit, Unreadable}
-use Rattle.checks.specs.Check.{answered}
+use Rattle.checks.specs.Reading.{answered}
 use borrow.Author.Needs.{needs}
 use Rattle.checks.proofs.judge.answer_to.Statement.{statement}
 use Rattle.checks.proofs.judge.answer_to.Tie as tie

@@ -7,8 +7,7 @@ use Rattle.answer.specs.declared.severity.Severity.{Severity}
 use Rattle.text.specs.declared.reading.Reading.{Reading}
 use Rattle.text.specs.declared.reading.Reading.the-variants.{AsItStands, Normalised, Stripped}
 use Rattle.figures.specs.declared.finding.Finding.{Finding}
-use Rattle.rules.specs.Reading.{foundIn}
-use Rattle.checks.specs.Check.{answered}
+use Rattle.checks.specs.Reading.{foundIn, answered}
 use borrow.Author.Needs.{needs}
 use Rattle.checks.proofs.reading.answer_by.Statement.{statement}
 use Rattle.checks.proofs.reading.answer_by.Tie as tie

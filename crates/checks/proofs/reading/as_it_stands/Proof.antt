@@ -7,9 +7,10 @@ use Rattle.answer.proofs.Laws.{is-none, is-given}
 use Rattle.text.specs.Answer.{readableOf}
 use Rattle.text.specs.declared.reading.Reading.the-variants.{AsItStands}
 use Rattle.figures.specs.declared.finding.Finding.the-variants.{Unreadable}
-use Rattle.rules.proofs.Found.{found-read, found-unread}
+use Rattle.checks.proofs.Found.{found-read, found-unread}
 use Rattle.checks.specs.declared.judge.Judge.the-variants.{ByRule}
-use Rattle.checks.specs.Check.{answered, findingBy}
+use Rattle.checks.specs.Reading.{answered}
+use Rattle.checks.specs.Check.{findingBy}
 use Rattle.checks.proofs.Judges.{by-judge}
 use borrow.Author.Needs.{needs}
 use Rattle.checks.proofs.reading.as_it_stands.Statement.{statement}

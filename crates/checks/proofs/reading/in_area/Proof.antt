@@ -2,7 +2,8 @@
 use mathlib.Core.Path.{refl, sym, ap, _∙_}
 use Rattle.ascii.proofs.Pick.{taken, left}
 use Rattle.answer.proofs.Laws.{is-none, is-given}
-use Rattle.checks.specs.Check.{answered, findingBy}
+use Rattle.checks.specs.Reading.{answered}
+use Rattle.checks.specs.Check.{findingBy}
 use borrow.Author.Needs.{needs}
 use Rattle.checks.proofs.reading.in_area.Statement.{statement}
 use Rattle.checks.proofs.reading.in_area.Tie as tie

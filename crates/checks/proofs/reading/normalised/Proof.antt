@@ -1,7 +1,7 @@
 -- `checks::reading::normalised` meets its contract.
 use mathlib.Core.Path.{ap, _∙_}
-use Rattle.checks.specs.Check.{answered}
-use Rattle.rules.proofs.Found.{found-normal}
+use Rattle.checks.specs.Reading.{answered}
+use Rattle.checks.proofs.Found.{found-normal}
 use borrow.Author.Needs.{needs}
 use Rattle.checks.proofs.reading.normalised.Statement.{statement}
 use Rattle.checks.proofs.reading.normalised.Tie as tie

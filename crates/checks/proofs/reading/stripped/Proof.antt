@@ -1,7 +1,7 @@
 -- `checks::reading::stripped` meets its contract.
 use mathlib.Core.Path.{ap, _∙_}
-use Rattle.checks.specs.Check.{answered}
-use Rattle.rules.proofs.Found.{found-stripped}
+use Rattle.checks.specs.Reading.{answered}
+use Rattle.checks.proofs.Found.{found-stripped}
 use borrow.Author.Needs.{needs}
 use Rattle.checks.proofs.reading.stripped.Statement.{statement}
 use Rattle.checks.proofs.reading.stripped.Tie as tie

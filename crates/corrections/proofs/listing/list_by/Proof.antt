@@ -7,7 +7,7 @@ use Rattle.text.specs.declared.area.Text.{Text}
 use Rattle.text.specs.Answer.{readableOf, textOf}
 use Rattle.text.proofs.Laws.{reason-normal, text-area}
 use Rattle.corrections.specs.Outcome.{refusedWith}
-use Rattle.rules.specs.Reading.{foundIn}
+use Rattle.checks.specs.Reading.{foundIn}
 use Rattle.corrections.specs.Listing.{listedFor}
 use Rattle.corrections.proofs.Outcomes.{works-refused}
 use borrow.Author.Needs.{needs}

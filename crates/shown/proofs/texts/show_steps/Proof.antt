@@ -1,12 +1,12 @@
--- `examples::commands::show_steps` ends.
+-- `shown::texts::show_steps` ends.
 use borrow.Author.Needs.{needs}
 use Prim.Native.Nat.{_-_, _≤_}
 use lib.ListN.{length}
-use Rattle.examples.proofs.commands.show_steps.Statement.{statement}
-use Rattle.examples.proofs.commands.show_steps.Tie as tie
-use Rattle.examples.proofs.commands.show_steps.Reads as reads
-use Rattle.examples.proofs.commands.show_steps.Lts as lts
-use Rattle.examples.proofs.commands.show_step.Reads as show-step-reads
+use Rattle.shown.proofs.texts.show_steps.Statement.{statement}
+use Rattle.shown.proofs.texts.show_steps.Tie as tie
+use Rattle.shown.proofs.texts.show_steps.Reads as reads
+use Rattle.shown.proofs.texts.show_steps.Lts as lts
+use Rattle.shown.proofs.texts.show_step.Reads as show-step-reads
 
 abbrev Inv-loop : tie.InvT-loop
 Inv-loop content at₀ at = at ≤ length content

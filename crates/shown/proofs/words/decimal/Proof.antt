@@ -1,12 +1,12 @@
--- `examples::split::decimal` stays within its text and within 32 bits.
+-- `shown::words::decimal` stays within its text and within 32 bits.
 use borrow.Author.Needs.{needs}
 use Prim.Native.Nat.{_-_, _≤_}
 use lib.ListN.{length}
-use Rattle.examples.proofs.split.decimal.Statement.{statement}
-use Rattle.examples.proofs.split.decimal.Tie as tie
-use Rattle.examples.proofs.split.decimal.Reads as reads
-use Rattle.examples.proofs.split.decimal.Lts as lts
-use Rattle.examples.proofs.split.more.Reads as more-reads
+use Rattle.shown.proofs.words.decimal.Statement.{statement}
+use Rattle.shown.proofs.words.decimal.Tie as tie
+use Rattle.shown.proofs.words.decimal.Reads as reads
+use Rattle.shown.proofs.words.decimal.Lts as lts
+use Rattle.shown.proofs.words.more.Reads as more-reads
 
 abbrev Inv-loop : tie.InvT-loop
 Inv-loop s n₀ i₀ n i = (i ≤ length s) × (n ≤ 4294967295)

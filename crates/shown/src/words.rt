@@ -2,12 +2,11 @@
 ghost use Prim.Native.Nat.{_≤_};
 ghost use lib.ListN.{length};
 
-// Where the word that begins at `at` ends: at its space, or at the end.
-pub(crate) fn word_end(s: &[u8], at: usize) -> usize
-    requires { ⌜ at ≤ length (now s) ⌝ }
-    ensures { λ r. ⌜ (at ≤ r) × (r ≤ length (now (s .entry))) ⌝ }
+// Where the first word ends: at its space, or at the end.
+pub fn word_end(s: &[u8]) -> usize
+    ensures { λ r. ⌜ r ≤ length (now (s .entry)) ⌝ }
 {
-    let mut i = at;
+    let mut i: usize = 0;
     while i < s.len() {
         if s[i] == b' ' {
             return i;
@@ -17,11 +16,11 @@ pub(crate) fn word_end(s: &[u8], at: usize) -> usize
     i
 }
 
-// The place behind the space at `end`, or the end.
-pub(crate) fn behind(s: &[u8], end: usize) -> usize
-    requires { ⌜ end ≤ length (now s) ⌝ }
-    ensures { λ r. ⌜ (end ≤ r) × (r ≤ length (now (s .entry))) ⌝ }
+// Where the rest begins: behind that space, or at the end.
+pub fn behind(s: &[u8]) -> usize
+    ensures { λ r. ⌜ r ≤ length (now (s .entry)) ⌝ }
 {
+    let end = word_end(s);
     if end < s.len() {
         return end + 1;
     }
@@ -54,7 +53,7 @@ fn more(high: u64, b: u8) -> u64
 }
 
 // A decimal number; what passes 32 bits counts as the most there is.
-pub(crate) fn decimal(s: &[u8]) -> u32 {
+pub fn decimal(s: &[u8]) -> u32 {
     let mut n: u64 = 0;
     let mut i: usize = 0;
     while i < s.len() {
@@ -65,7 +64,7 @@ pub(crate) fn decimal(s: &[u8]) -> u32 {
 }
 
 // A number, or the most that it may be.
-pub(crate) fn at_most(n: u32, most: usize) -> usize
+pub fn at_most(n: u32, most: usize) -> usize
     ensures { λ r. ⌜ r ≤ most ⌝ }
 {
     let n = n as usize;

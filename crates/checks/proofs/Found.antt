@@ -13,7 +13,7 @@ use Rattle.text.specs.Answer.{readableOf, normalText, strippedText, textIn, tex
 use Rattle.text.proofs.Laws.{reason-normal, reason-stripped}
 use Rattle.figures.specs.declared.finding.Finding.{Finding}
 use Rattle.figures.specs.declared.finding.Finding.the-variants.{Unreadable}
-use Rattle.rules.specs.Reading.{foundIn}
+use Rattle.checks.specs.Reading.{foundIn}
 
 -- a content that can be read, and one that can't
 module _ (how : Reading) (judge : List ℕ → Finding) (s : List ℕ) where

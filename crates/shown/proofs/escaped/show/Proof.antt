@@ -1,12 +1,12 @@
--- `examples::escape::show` stays within the text.
+-- `shown::escaped::show` stays within the text.
 use borrow.Author.Needs.{needs}
 use Prim.Native.Nat.{_-_, _≤_}
 use lib.ListN.{length}
-use Rattle.examples.proofs.escape.show.Statement.{statement}
-use Rattle.examples.proofs.escape.show.Tie as tie
-use Rattle.examples.proofs.escape.show.Reads as reads
-use Rattle.examples.proofs.escape.show.Lts as lts
-use Rattle.examples.proofs.escape.show_byte.Reads as show-byte-reads
+use Rattle.shown.proofs.escaped.show.Statement.{statement}
+use Rattle.shown.proofs.escaped.show.Tie as tie
+use Rattle.shown.proofs.escaped.show.Reads as reads
+use Rattle.shown.proofs.escaped.show.Lts as lts
+use Rattle.shown.proofs.escaped.show_byte.Reads as show-byte-reads
 
 abbrev Inv-loop : tie.InvT-loop
 Inv-loop s i₀ i = i ≤ length s

@@ -1,17 +1,17 @@
--- `examples::split::word_end` stays within the line.
+-- `shown::words::word_end` stays within the line.
 use borrow.Author.Needs.{needs}
 use Prim.Native.Nat.{_-_, _≤_}
 use lib.ListN.{length}
-use Rattle.examples.proofs.split.word_end.Statement.{statement}
-use Rattle.examples.proofs.split.word_end.Tie as tie
-use Rattle.examples.proofs.split.word_end.Reads as reads
-use Rattle.examples.proofs.split.word_end.Lts as lts
+use Rattle.shown.proofs.words.word_end.Statement.{statement}
+use Rattle.shown.proofs.words.word_end.Tie as tie
+use Rattle.shown.proofs.words.word_end.Reads as reads
+use Rattle.shown.proofs.words.word_end.Lts as lts
 
 abbrev Inv-loop : tie.InvT-loop
-Inv-loop s at i₀ i = (at ≤ i) × (i ≤ length s)
+Inv-loop s i₀ i = i ≤ length s
 
 abbrev μ-loop : tie.MeasureT-loop
-μ-loop s at i₀ i = length s - i
+μ-loop s i₀ i = length s - i
 
 loop-holds : tie.Need-loop-holds Inv-loop μ-loop
 loop-holds c = search needs
