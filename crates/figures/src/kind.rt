@@ -147,7 +147,7 @@ fn added(kind: Kind, weights: &[u32], s: &[u8], after: usize) -> Sum
     Sum::Of(sum)
 }
 
-// The total of least to most digits by the weights of their places; where a check digit is still to come, the last of these is for it.
+// The total of least to most digits by the weights of their places; where a check digit is still to come, the weight of the last place is for it.
 pub fn sum_of(kind: Kind, weights: &[u32], s: &[u8], least: u8, most: u8, pending: bool) -> Sum
     ensures { λ r. ⌜ r ≡ summedBy (figureBy kind .fold) (now (weights .entry)) (digits least most) (boolByte pending) (now (s .entry)) ⌝ }
 {
