@@ -1,6 +1,7 @@
 /* Times two builds of the library: beside ROUNDS BEFORE.so NOW.so
  *
- * Nanoseconds for an answer, medians of the rounds, in which the two take turns. A call goes through a pointer, on both sides. */
+ * Nanoseconds for an answer, medians of the rounds, in which the two take turns; a star where their answers differ. A call goes through a pointer,
+ * on both sides. All functions of the header but answer_lines, decode and is_white have a row. */
 #define _POSIX_C_SOURCE 200809L
 #include <dlfcn.h>
 #include <stdint.h>
@@ -153,20 +154,25 @@ static double nanoseconds(void)
     return 1e9 * (double)t.tv_sec + (double)t.tv_nsec;
 }
 
-static volatile uint32_t sink;
-
 /* Nanoseconds for one of so many calls. */
 static double timed(const struct library *l, const struct row *row, long calls)
 {
     size_t scheme_len = strlen(row->scheme), len = strlen(row->content);
-    uint32_t sum = 0;
     double began = nanoseconds();
     for (long i = 0; i < calls; i++) {
-        sum += answer(l, row, scheme_len, len);
+        answer(l, row, scheme_len, len);
     }
-    double took = nanoseconds() - began;
-    sink = sum;
-    return took / (double)calls;
+    return (nanoseconds() - began) / (double)calls;
+}
+
+/* So many that they take 30 microseconds, which is long beside a look at the clock. */
+static long enough_calls(const struct library *l, const struct row *row)
+{
+    long calls = 64;
+    while (timed(l, row, calls) * (double)calls < 30000) {
+        calls *= 2;
+    }
+    return calls;
 }
 
 static int by_size(const void *a, const void *b)
@@ -181,6 +187,23 @@ static double median(double *times, size_t count)
     return times[count / 2];
 }
 
+/* Both sides of a row, in turn. */
+static void time_row(const struct library libraries[2], const struct row *row, double *times[2], long rounds)
+{
+    long calls = enough_calls(&libraries[0], row);
+    for (long round = 0; round < rounds; round++) {
+        for (long turn = 0; turn < 2; turn++) {
+            long side = (round + turn) % 2;
+            times[side][round] = timed(&libraries[side], row, calls);
+        }
+    }
+    size_t scheme_len = strlen(row->scheme), len = strlen(row->content);
+    int same = answer(&libraries[0], row, scheme_len, len) == answer(&libraries[1], row, scheme_len, len);
+    double before = median(times[0], (size_t)rounds), now = median(times[1], (size_t)rounds);
+    printf("%-30s %-4s %2u  %-34s ", names[row->function], row->scheme, (unsigned)row->term, row->content);
+    printf("%8.2f %8.2f %+6.1f%%%s\n", before, now, 100 * (now / before - 1), same ? "" : " *");
+}
+
 int main(int argc, char **argv)
 {
     long rounds = argc == 4 ? atol(argv[1]) : 0;
@@ -189,28 +212,13 @@ int main(int argc, char **argv)
         return 2;
     }
     struct library libraries[2] = {load(argv[2]), load(argv[3])};
-    double *times[2];
-    for (int side = 0; side < 2; side++) {
-        times[side] = malloc((size_t)rounds * sizeof **times);
-        if (times[side] == NULL) {
-            return 1;
-        }
+    double *times[2] = {malloc((size_t)rounds * sizeof(double)), malloc((size_t)rounds * sizeof(double))};
+    if (times[0] == NULL || times[1] == NULL) {
+        return 1;
     }
-    printf("%-30s %-4s %-2s  %-34s %8s %8s %7s\n", "function", "", "", "of", "before", "now", "");
+    printf("%-30s %-7s  %-34s %8s %8s\n", "function", "", "of", "before", "now");
     for (size_t r = 0; r < sizeof rows / sizeof *rows; r++) {
-        const struct row *row = &rows[r];
-        long calls = 64;
-        while (timed(&libraries[0], row, calls) * (double)calls < 30000) {
-            calls *= 2;
-        }
-        for (long round = 0; round < rounds; round++) {
-            for (long turn = 0; turn < 2; turn++) {
-                long side = (round + turn) % 2;
-                times[side][round] = timed(&libraries[side], row, calls);
-            }
-        }
-        double before = median(times[0], (size_t)rounds), now = median(times[1], (size_t)rounds);
-        printf("%-30s %-4s %2u  %-34s %8.2f %8.2f %+6.1f%%\n", names[row->function], row->scheme, (unsigned)row->term, row->content, before, now, 100 * (now / before - 1));
+        time_row(libraries, &rows[r], times, rounds);
     }
     return 0;
 }

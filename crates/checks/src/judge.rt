@@ -29,8 +29,8 @@ pub(crate) fn answer_to(number: u32, severity: Severity, found: Finding) -> Answ
     }
 }
 
-// The answer of a rule to a text that was read. It has every rule in it, so that a finding goes into no memory; a slice of the text goes on,
-// so that the text comes in registers.
+// The answer of a rule to a text that was read. It has every rule in it, so that a finding goes into no memory; `&text[0..n]` and not `text`,
+// so that its address and length come in registers.
 pub(crate) fn answer_rule(rule: Rule, number: u32, severity: Severity, text: &[u8]) -> Answer
     ensures { λ r. ⌜ r ≡ answered number severity (finding rule (now (text .entry))) ⌝ }
 {

@@ -21,7 +21,7 @@ fn as_it_stands(judge: Judge, number: u32, severity: Severity, content: &[u8]) -
 {
     let why = text::readable(content);
     if why.number() == 0 {
-        // called here too, so that `answer_rule` stays a function of its own and an account's check does not go through it
+        // a second caller: with one the compiler would put `answer_rule` into `answer_text`, and an account's check would go through it
         if let Judge::ByRule(rule) = judge {
             return answer_rule(rule, number, severity, content);
         }

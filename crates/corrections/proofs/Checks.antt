@@ -17,9 +17,10 @@ use Rattle.forms.proofs.OfDigits.{Digits}
 use Rattle.figures.specs.Figures.{totalBy, figure41, belgianPair}
 use Rattle.figures.specs.Rules.{allZero}
 use Rattle.figures.specs.Completing.{oneDigit, checkFigure}
-use Rattle.figures.specs.Inner.{lacking, withZero}
+use Rattle.figures.specs.Inner.{lacking}
 use Rattle.figures.proofs.Digits.{by-powers}
 use Rattle.figures.proofs.Zeros.{zeros41}
+use Rattle.figures.proofs.Adding.{withZero}
 use Rattle.corrections.specs.declared.five.Five.{Five}
 use Rattle.corrections.specs.declared.five.Five.the-variants.{Gln, Norway, Belgium, Sweden, Australia}
 use Rattle.corrections.specs.Five.{row}

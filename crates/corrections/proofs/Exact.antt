@@ -20,7 +20,7 @@ use Rattle.forms.specs.declared.form.Fault.the-variants.{Fits}
 use Rattle.forms.proofs.OfDigits.{Digits, digits-fit, fit-digits}
 use Rattle.figures.specs.Total.{total, digitAt, number}
 use Rattle.figures.specs.Figures.{weightAt, counted, adds, totalBy, right, figure40, figure41, belgianPair, luhn, figure50}
-use Rattle.figures.specs.Inner.{figureBy, weightBy, addsFrom, summed, summedBy, withZero, totalPasses}
+use Rattle.figures.specs.Inner.{figureBy, weightBy, addsFrom, summed, summedBy, totalPasses}
 use Rattle.figures.specs.declared.kind.Kind.{Kind}
 use Rattle.figures.specs.declared.kind.Kind.the-variants.{Mod97}
 use Rattle.figures.specs.Findings.{isGood, judgedZero}
@@ -29,7 +29,7 @@ use Rattle.figures.specs.Changes.{exchanged}
 use Rattle.figures.proofs.Judging.{good-by}
 use Rattle.figures.proofs.Digits.{all-set, by-powers, same-total}
 use Rattle.figures.proofs.Steps.{within-table}
-use Rattle.figures.proofs.Adding.{adds-zero, total-small, placed-length, placed-at, with-pending, sum-formed, sum-same}
+use Rattle.figures.proofs.Adding.{adds-zero, total-small, placed-length, placed-at, withZero, with-pending, sum-formed, sum-same}
 use Rattle.figures.proofs.Zeros.{zeros41}
 use Rattle.figures.proofs.Shift.{total-set, total-exchanged}
 use Rattle.figures.proofs.Links.{join, total-reduced, leaves-ten, ten-leaves}
@@ -127,7 +127,7 @@ weight-is Belgium j l = sym (within-table (addsBy Belgium .weights) j l)
 weight-is Sweden j l = refl
 weight-is Australia j l = sym (within-table (addsBy Australia .weights) j l)
 
-pub place-is : (k : Five) (j : ℕ) → j < row k .most → getD (placesOf k) j 0 ≡ weightAt (addsBy k .weights) j
+place-is : (k : Five) (j : ℕ) → j < row k .most → getD (placesOf k) j 0 ≡ weightAt (addsBy k .weights) j
 place-is k j l = placed-at 20 (weightBy (row k .figure)) j (omega (arith, lengths k .1)) ∙ weight-is k j l
 
 -- what a digit adds as the code asks for it, by a weight that it looked up
@@ -142,9 +142,9 @@ pub places-20 : (k : Five) {ws : List ℕ} → ws ≡ placesOf k → length ws �
 places-20 k e = ap length e ∙ placed-length 20 (weightBy (row k .figure))
 
 -- the sum that the code asks for is that of the figure
-pub sum-is : (k : Five) (p : Bool) (a b : ℕ) (s : List ℕ) → b + boolByte p ≤ row k .most
+pub sum-by-figure : (k : Five) (p : Bool) (a b : ℕ) (s : List ℕ) → b + boolByte p ≤ row k .most
     → summedBy (addsBy k .fold) (placesOf k) (digits a b) (boolByte p) s ≡ summed (faultOf (digits a b) s) (totalBy (addsBy k) (withZero p s))
-sum-is k p a b s h =
+sum-by-figure k p a b s h =
     sum-formed (addsBy k .fold) (placesOf k) (digits a b) (boolByte p) s (omega (arith, places-20 k refl, lengths k .1))
     ∙ sum-same (faultOf (digits a b) s)
     (λ e.

@@ -1,5 +1,4 @@
 // Listing: every correction of a refused number.
-ghost use mathlib.Core.Path.{_≡_};
 ghost use lib.ListN.{length};
 ghost use Rattle.corrections.specs.Outcome.{Works};
 ghost use Rattle.corrections.specs.Listing.{numberFound, entriesOf, listedBy, listedFor, listing};

@@ -1,6 +1,6 @@
 // A content as it stands in a line: `\` and two hexadecimal digits are a byte, any other byte is itself.
 ghost use mathlib.Core.Path.{_≡_};
-ghost use Prim.Native.Nat.{_+_, _≤_, _<_, _*_};
+ghost use Prim.Native.Nat.{_+_, _≤_, _<_};
 ghost use lib.ListN.{length};
 
 // A hexadecimal digit's value, and 0 for any other byte.

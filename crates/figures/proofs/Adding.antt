@@ -1,8 +1,9 @@
--- The totals that the code finds its answers from: how large they are, and a check digit that is still to come. Assumes nothing.
+-- The totals that the code finds its answers from: how large they are, the weights of places, a check digit that is still to come, the form with
+-- the total. Assumes nothing.
 use mathlib.Core.Path.{_≡_, refl, _∙_, sym, ap}
 use mathlib.Core.Bool.{Bool, true, false}
 use mathlib.Core.List.{List, [], _∷_, _++_}
-use Prim.Native.Nat.{ℕ, zero, suc, _+_, _-_, _*_, _/_, _%_, _≤_, _<_}
+use Prim.Native.Nat.{ℕ, zero, suc, _+_, _-_, _*_, _%_, _≤_, _<_}
 use native.Mathlib.Nat.{add-zero, mul-le-mul, mod-lt}
 use native.Mathlib.Omega.{arith}
 use native.Mathlib.Decide.{ℕ-discrete}
@@ -13,16 +14,16 @@ use lib.Seq.{getD-append-add, getD-set-same, getD-set-other, ext-getD}
 use mir.Val.{boolByte}
 use Rattle.ascii.specs.Pick.{pick}
 use Rattle.ascii.specs.Class.{isDigit, all}
-use Rattle.ascii.proofs.Tests.{false-true, below, below-at}
+use Rattle.ascii.proofs.Tests.{below, below-at}
 use Rattle.ascii.proofs.Class.{digit-bounds, all-first, all-rest}
 use Rattle.forms.specs.Form.{Form, faultOf, isFit}
 use Rattle.forms.proofs.Laws.{fault-long}
 use Rattle.forms.specs.declared.form.Fault.{Fault}
 use Rattle.forms.specs.declared.form.Fault.the-variants.{Fits, Length, At}
 use Rattle.figures.specs.Total.{total}
-use Rattle.figures.specs.Figures.{Figure, weightAt, counted, adds, totalBy}
+use Rattle.figures.specs.Figures.{weightAt, counted, adds, totalBy}
 use Rattle.figures.specs.Completing.{oneDigit}
-use Rattle.figures.specs.Inner.{figureBy, placed, addsFrom, summed, summedBy, withZero}
+use Rattle.figures.specs.Inner.{figureBy, placed, addsFrom, summed, summedBy}
 use Rattle.figures.specs.declared.kind.Kind.{Kind}
 use Rattle.figures.specs.declared.kind.Kind.the-variants.{Mod10, Mod11, Mod97, Luhn, Mod89}
 use Rattle.figures.specs.declared.kind.Sum.{Sum}
@@ -30,7 +31,7 @@ use Rattle.figures.specs.declared.kind.Sum.the-variants.{Of, Unfit}
 use Rattle.figures.proofs.Digits.{same-total}
 use Rattle.figures.proofs.Links.{join}
 
-pub counted-small : (fold : Bool) (n : ℕ) → counted fold n ≤ n
+counted-small : (fold : Bool) (n : ℕ) → counted fold n ≤ n
 counted-small true n = omega arith
 counted-small false n = omega arith
 
@@ -42,7 +43,7 @@ share-small fold w d h l =
 
 -- ---- a figure's weights
 
-pub some-weights : (kind : Kind) → 0 < length (figureBy kind .weights)
+some-weights : (kind : Kind) → 0 < length (figureBy kind .weights)
 some-weights Mod10 = lit< tt
 some-weights Mod11 = lit< tt
 some-weights Mod97 = lit< tt
@@ -59,7 +60,7 @@ light-weights Mod97 = refl
 light-weights Luhn = refl
 light-weights Mod89 = refl
 
-pub weight-small : (kind : Kind) (k : ℕ) → weightAt (figureBy kind .weights) k ≤ 1000000000
+weight-small : (kind : Kind) (k : ℕ) → weightAt (figureBy kind .weights) k ≤ 1000000000
 weight-small kind k =
     let ws = figureBy kind .weights in
     leb-true _ _ (below-at (length ws) (λ j. leb (getD ws j 0) 1000000000) (light-weights kind) (k % length ws) (mod-lt k (some-weights kind)))
@@ -128,6 +129,11 @@ module _ (f : ℕ → ℕ) where
           go false e = r .done j (leb-false k j e)
 
 -- ---- a check digit that is still to come
+
+-- the number with a 0 for it
+abbrev pub withZero : Bool → List ℕ → List ℕ
+withZero true s = s ++ oneDigit 0
+withZero false s = s
 
 pub with-pending : (f : ℕ → ℕ → ℕ) (u : List ℕ) (p : Bool) → f 0 0 ≡ 0 → total (λ j d. f (j + boolByte p) d) u ≡ total f (withZero p u)
 with-pending f u true z =

@@ -11,7 +11,7 @@ use Rattle.forms.specs.declared.form.Fault.{Fault}
 use Rattle.forms.specs.declared.form.Fault.the-variants.{Fits, Length, At}
 use Rattle.figures.specs.Total.{total}
 use Rattle.figures.specs.Figures.{Figure, weightAt, counted, figure, figure40, figure41, belgianPair, luhn, figure50}
-use Rattle.figures.specs.Completing.{oneDigit, complement, abnPair}
+use Rattle.figures.specs.Completing.{complement, abnPair}
 use Rattle.figures.specs.declared.kind.Kind.{Kind}
 use Rattle.figures.specs.declared.kind.Kind.the-variants.{Mod10, Mod11, Mod97, Luhn, Mod89}
 use Rattle.figures.specs.declared.kind.Sum.{Sum}
@@ -30,15 +30,15 @@ figureBy Mod97 = figure false powers 97
 figureBy Luhn = luhn
 figureBy Mod89 = figure50
 
--- the weight of the place k from the right: two weights alternate for ever, a table has one for each digit that a number has
+-- the weight of a digit with k digits to its right: two weights alternate for ever, a table has one for each digit of a number, and past it 0
 abbrev pub weightBy : Kind → ℕ → ℕ
-weightBy Mod10 k = weightAt (figure40 .weights) k
-weightBy Mod11 k = getD (figure41 .weights) k 0
-weightBy Mod97 k = getD powers k 0
-weightBy Luhn k = weightAt (luhn .weights) k
-weightBy Mod89 k = getD (figure50 .weights) k 0
+weightBy Mod10 k = weightAt (figureBy Mod10 .weights) k
+weightBy Mod11 k = getD (figureBy Mod11 .weights) k 0
+weightBy Mod97 k = getD (figureBy Mod97 .weights) k 0
+weightBy Luhn k = weightAt (figureBy Luhn .weights) k
+weightBy Mod89 k = getD (figureBy Mod89 .weights) k 0
 
--- the weights of n places
+-- the weights of n places, from the right
 unfoldable pub placed : ℕ → (ℕ → ℕ) → List ℕ
 placed zero weight = []
 placed (suc n) weight = placed n weight ++ (weight n ∷ [])
@@ -63,22 +63,18 @@ lacking Mod89 t = abnPair t
 abbrev pub addsFrom : ℕ → Bool → List ℕ → ℕ → ℕ → ℕ
 addsFrom after fold places k d = counted fold (getD places (k + after) 0 * d)
 
--- the first place that has no digit
+-- the first place that has no digit; Fits where each has one
 abbrev pub noDigit : List ℕ → Fault
 noDigit s = wrong (classAt [] (code "#")) 0 s
 
--- the form first, and then the total
+-- a total, where nothing is wrong with the form
 abbrev pub summed : Fault → ℕ → Sum
 summed Fits t = Of t
 summed Length t = Unfit Length
 summed (At k) t = Unfit (At k)
 
--- LENGTH too where there are more digits than places
+-- the form of a number and then its total, by the weights of the places and with `after` digits still to come; LENGTH too where these are
+-- more digits than places
 unfoldable pub summedBy : Bool → List ℕ → Form → ℕ → List ℕ → Sum
 summedBy fold places form after s =
     pick (leb (length s + after) (length places)) (summed (faultOf form s) (total (addsFrom after fold places) s)) (Unfit Length)
-
--- a number whose check digit is still to come, with a 0 for it
-abbrev pub withZero : Bool → List ℕ → List ℕ
-withZero true s = s ++ oneDigit 0
-withZero false s = s

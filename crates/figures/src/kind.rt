@@ -59,7 +59,7 @@ pub(crate) const ELEVEN: u64 = 11;
 
 pub(crate) const ABN_MODULUS: u64 = 89;
 
-// Two weights in turn.
+// Two weights in turn, over 20 places.
 fn in_turn(last: u32, before: u32) -> [u32; 20]
     ensures { λ r. ⌜ r ≡ placed 20 (weightAt (last ∷ before ∷ [])) ⌝ }
 {
@@ -74,7 +74,7 @@ fn in_turn(last: u32, before: u32) -> [u32; 20]
     places
 }
 
-// The weights of a table.
+// The weights of a table, and zeros up to 20 places.
 fn tabled(weights: &[u32]) -> [u32; 20]
     requires { ⌜ length (now weights) ≤ 20 ⌝ }
     ensures { λ r. ⌜ r ≡ placed 20 (λ k. getD (now (weights .entry)) k 0) ⌝ }
@@ -89,7 +89,7 @@ fn tabled(weights: &[u32]) -> [u32; 20]
     places
 }
 
-// The weights of 20 places, which is as many as a number has at most.
+// The weights of 20 places, as many as a number has that is completed or listed.
 pub fn weights_of(kind: Kind) -> [u32; 20]
     ensures { λ r. ⌜ r ≡ placed 20 (weightBy kind) ⌝ }
 {
@@ -147,7 +147,8 @@ fn added(kind: Kind, weights: &[u32], s: &[u8], after: usize) -> Sum
     Sum::Of(sum)
 }
 
-// The total of least to most digits by the weights of their places; where a check digit is still to come, the weight of the last place is for it.
+// The total of least to most digits by the weights of their places; where a check digit is still to come, the last place is for it. More digits
+// than places are too long.
 pub fn sum_of(kind: Kind, weights: &[u32], s: &[u8], least: u8, most: u8, pending: bool) -> Sum
     ensures { λ r. ⌜ r ≡ summedBy (figureBy kind .fold) (now (weights .entry)) (digits least most) (boolByte pending) (now (s .entry)) ⌝ }
 {

@@ -24,7 +24,7 @@ use Rattle.corrections.specs.Outcome.{Outcome, refusedWith, success, unl
 use Rattle.corrections.specs.Completing.{figureFor, noFigure, completedBy}
 use Rattle.corrections.specs.Inner.{whyNone}
 use Rattle.corrections.proofs.Outcomes.{works-refused, form-none, form-unmet, first-stops, room-short, room-enough}
-use Rattle.corrections.proofs.Exact.{sum-is}
+use Rattle.corrections.proofs.Exact.{sum-by-figure}
 use Rattle.corrections.proofs.Checks.{bodyTotal, body-room, check, check-is, none-is, check-small, digit-small}
 use borrow.Author.Needs.{needs}
 use Rattle.corrections.proofs.completing.complete_by.Statement.{statement}
@@ -45,7 +45,7 @@ sum-of-body t =
     t .sum-of .ensures
     ∙ ap (λ ws. summedBy (figureBy (q .figure) .fold) ws (digits (q .shortest) (q .longest)) (boolByte (not (q .pair))) body) (t .before .before .before .weights-of .ensures)
     ∙ ap (λ (r : Row). summedBy (figureBy (r .figure) .fold) (placed 20 (weightBy (r .figure))) (digits (r .shortest) (r .longest)) (boolByte (not (r .pair))) body) (told-row t .row .ensures)
-    ∙ sum-is k (not (row k .pair)) (row k .shortest) (row k .longest) body (body-room k)
+    ∙ sum-by-figure k (not (row k .pair)) (row k .shortest) (row k .longest) body (body-room k)
 
 -- a body of the right form
 module _ (t : tie.After-known-told) where

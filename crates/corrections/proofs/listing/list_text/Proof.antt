@@ -1,12 +1,11 @@
 -- `corrections::listing::list_text` meets its contract.
 use mathlib.Core.Path.{_≡_, _∙_, sym, ap}
 use mathlib.Core.Bool.{false}
-use Prim.Native.Nat.{ℕ, _≤_}
+use Prim.Native.Nat.{_≤_}
 use denote.Ref.{now}
 use lib.ListN.{length}
 use Rattle.forms.specs.Form.{faultOf}
 use Rattle.forms.specs.Table.{digits}
-use Rattle.figures.specs.declared.kind.Sum.{Sum}
 use Rattle.figures.specs.Figures.{totalBy}
 use Rattle.figures.specs.Inner.{figureBy, weightBy, placed, totalPasses, summed, summedBy}
 use Rattle.figures.proofs.Adding.{sum-means, unfit-means}
@@ -16,7 +15,7 @@ use Rattle.corrections.specs.Five.{row, ruleOf, numberForm}
 use Rattle.corrections.specs.Listing.{entriesOf}
 use Rattle.corrections.specs.Inner.{addsBy, placesOf, Summed}
 use Rattle.corrections.proofs.Areas.{small-joined}
-use Rattle.corrections.proofs.Exact.{sum-is, lengths, number-digits, number-passes}
+use Rattle.corrections.proofs.Exact.{sum-by-figure, lengths, number-digits, number-passes}
 use Rattle.corrections.proofs.Outcomes.{works-refused, room-short}
 use Rattle.corrections.proofs.Rows.{listed-unfit, listed-good, listed-wrong, entries-done}
 use native.Mathlib.Omega.{arith}
@@ -42,7 +41,7 @@ sum-of-number t =
     t .sum-of .ensures
     ∙ ap (λ ws. summedBy (figureBy (q .figure) .fold) ws (digits (q .least) (q .most)) 0 s) (weights-are t)
     ∙ ap (λ (r : Row). summedBy (figureBy (r .figure) .fold) (placesOf k) (digits (r .least) (r .most)) 0 s) (told-row t .row .ensures)
-    ∙ sum-is k false (row k .least) (row k .most) s (omega arith)
+    ∙ sum-by-figure k false (row k .least) (row k .most) s (omega arith)
 
 abbrev at : tie.After-known-told → tie.After-sum-of
 at t = t .before .before .before

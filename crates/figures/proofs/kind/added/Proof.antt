@@ -1,7 +1,7 @@
 -- `figures::kind::added` meets its contract. The invariant: the sum so far and what is left make the total, and nothing is wrong so far. Assumes nothing.
 use mathlib.Core.Path.{_≡_, refl, ap, _∙_, sym}
-use mathlib.Core.Bool.{Bool, true}
-use mathlib.Core.List.{List, []}
+use mathlib.Core.Bool.{true}
+use mathlib.Core.List.{[]}
 use Prim.Native.Char.{code}
 use Prim.Native.Nat.{ℕ, _+_, _-_, _*_, _≤_}
 use native.Mathlib.Omega.{arith}
@@ -10,7 +10,7 @@ use denote.Ref.{now}
 use lib.ListN.{length, getD, drop}
 use Rattle.ascii.specs.Class.{isDigit}
 use Rattle.ascii.proofs.Class.{digit-bounds}
-use Rattle.forms.specs.Form.{ofClass, classAt, wrong}
+use Rattle.forms.specs.Form.{classAt, wrong}
 use Rattle.forms.proofs.Laws.{class-digit, wrong-more, wrong-here, wrong-end}
 use Rattle.figures.specs.Total.{total}
 use Rattle.figures.specs.Inner.{figureBy, addsFrom, noDigit}

@@ -4,9 +4,6 @@ use Prim.Native.Nat.{_-_, _≤_}
 use lib.ListN.{length}
 use Rattle.shown.proofs.escaped.show.Statement.{statement}
 use Rattle.shown.proofs.escaped.show.Tie as tie
-use Rattle.shown.proofs.escaped.show.Reads as reads
-use Rattle.shown.proofs.escaped.show.Lts as lts
-use Rattle.shown.proofs.escaped.show_byte.Reads as show-byte-reads
 
 abbrev Inv-loop : tie.InvT-loop
 Inv-loop s i₀ i = i ≤ length s

@@ -4,10 +4,6 @@ use Prim.Native.Nat.{_-_, _≤_}
 use lib.ListN.{length}
 use Rattle.shown.proofs.texts.show_area.Statement.{statement}
 use Rattle.shown.proofs.texts.show_area.Tie as tie
-use Rattle.shown.proofs.texts.show_area.Reads as reads
-use Rattle.shown.proofs.texts.show_area.Lts as lts
-use Rattle.shown.proofs.escaped.show.Reads as show-reads
-use Rattle.io.proofs.write_all.Reads as write-all-reads
 
 abbrev Inv-loop : tie.InvT-loop
 Inv-loop area n i₀ t5 i = (n ≤ length area) × (i ≤ length area)

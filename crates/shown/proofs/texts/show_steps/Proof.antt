@@ -4,9 +4,6 @@ use Prim.Native.Nat.{_-_, _≤_}
 use lib.ListN.{length}
 use Rattle.shown.proofs.texts.show_steps.Statement.{statement}
 use Rattle.shown.proofs.texts.show_steps.Tie as tie
-use Rattle.shown.proofs.texts.show_steps.Reads as reads
-use Rattle.shown.proofs.texts.show_steps.Lts as lts
-use Rattle.shown.proofs.texts.show_step.Reads as show-step-reads
 
 abbrev Inv-loop : tie.InvT-loop
 Inv-loop content at₀ at = at ≤ length content

@@ -4,9 +4,6 @@ use Prim.Native.Nat.{_-_, _≤_}
 use lib.ListN.{length}
 use Rattle.shown.proofs.words.decimal.Statement.{statement}
 use Rattle.shown.proofs.words.decimal.Tie as tie
-use Rattle.shown.proofs.words.decimal.Reads as reads
-use Rattle.shown.proofs.words.decimal.Lts as lts
-use Rattle.shown.proofs.words.more.Reads as more-reads
 
 abbrev Inv-loop : tie.InvT-loop
 Inv-loop s n₀ i₀ n i = (i ≤ length s) × (n ≤ 4294967295)

@@ -4,8 +4,6 @@ use Prim.Native.Nat.{_-_, _≤_}
 use lib.ListN.{length}
 use Rattle.shown.proofs.words.word_end.Statement.{statement}
 use Rattle.shown.proofs.words.word_end.Tie as tie
-use Rattle.shown.proofs.words.word_end.Reads as reads
-use Rattle.shown.proofs.words.word_end.Lts as lts
 
 abbrev Inv-loop : tie.InvT-loop
 Inv-loop s i₀ i = i ≤ length s
