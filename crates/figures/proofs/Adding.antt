@@ -163,6 +163,15 @@ sum-same Fits h = ap Of (h refl)
 sum-same Length h = refl
 sum-same (At k) h = refl
 
+-- a length that is out of range, whatever the places are
+pub sum-out : (fold : Bool) (places : List ℕ) (f : Form) (after : ℕ) (s : List ℕ) → faultOf f s ≡ Length → Unfit Length ≡ summedBy fold places f after s
+unfolding summedBy pick
+sum-out fold places f after s h = rw h (go (leb (length s + after) (length places)))
+  where
+    go : (t : Bool) → Unfit Length ≡ pick t (Unfit Length) (Unfit Length)
+    go true = refl
+    go false = refl
+
 -- more digits than places
 pub sum-over : (fold : Bool) (places : List ℕ) (f : Form) (after : ℕ) (s : List ℕ) → length places < length s + after → Unfit Length ≡ summedBy fold places f after s
 unfolding summedBy pick

@@ -154,13 +154,13 @@ pub fn sum_of(kind: Kind, weights: &[u32], s: &[u8], least: u8, most: u8, pendin
 {
     let n = s.len();
     let after = pending as usize;
-    if weights.len() < n + after {
-        return Sum::Unfit(Fault::Length);
-    }
     if n < (least as usize) {
         return Sum::Unfit(Fault::Length);
     }
     if (most as usize) < n {
+        return Sum::Unfit(Fault::Length);
+    }
+    if weights.len() < n + after {
         return Sum::Unfit(Fault::Length);
     }
     added(kind, weights, s, after)
