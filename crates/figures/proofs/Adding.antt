@@ -152,12 +152,6 @@ sum-fit h e = rw (h, e) refl
 pub sum-by : {x y : Fault} {r : Sum} (n : ℕ) → r ≡ summed x n → x ≡ y → r ≡ summed y n
 sum-by n e h = rw (← h) e
 
-pub sum-at : {y : Fault} {k : ℕ} (n : ℕ) → y ≡ At k → Unfit (At k) ≡ summed y n
-sum-at n h = rw h refl
-
-pub sum-length : {y : Fault} (n : ℕ) → y ≡ Length → Unfit Length ≡ summed y n
-sum-length n h = rw h refl
-
 pub sum-same : (y : Fault) {n m : ℕ} → (y ≡ Fits → n ≡ m) → summed y n ≡ summed y m
 sum-same Fits h = ap Of (h refl)
 sum-same Length h = refl
@@ -189,7 +183,7 @@ sum-formed fold places f after s h = go (leb (length s + after) (length places))
     go true e = sum-room fold places f after s (leb-true _ _ e)
     go false e =
         let l = leb-false (length s + after) (length places) e in
-        sym (sum-over fold places f after s l) ∙ sum-length _ (fault-long f s (omega arith))
+        sym (sum-over fold places f after s l) ∙ sum-by {x = Length} _ refl (sym (fault-long f s (omega arith)))
 
 -- what a caller learns of a sum
 pub sum-means : (y : Fault) (n : ℕ) {t : ℕ} → summed y n ≡ Of t → (y ≡ Fits) × (n ≡ t)

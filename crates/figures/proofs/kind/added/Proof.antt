@@ -11,11 +11,12 @@ use lib.ListN.{length, getD, drop}
 use Rattle.ascii.specs.Class.{isDigit}
 use Rattle.ascii.proofs.Class.{digit-bounds}
 use Rattle.forms.specs.Form.{classAt, wrong}
+use Rattle.forms.specs.declared.form.Fault.the-variants.{At}
 use Rattle.forms.proofs.Laws.{class-digit, wrong-more, wrong-here, wrong-end}
 use Rattle.figures.specs.Total.{total}
 use Rattle.figures.specs.Inner.{figureBy, addsFrom, noDigit}
 use Rattle.figures.proofs.Steps.{step, end}
-use Rattle.figures.proofs.Adding.{share-small, sum-fit, sum-at}
+use Rattle.figures.proofs.Adding.{share-small, sum-fit, sum-by}
 use Rattle.figures.proofs.kind.added.Statement.{statement}
 use Rattle.figures.proofs.kind.added.Tie as tie
 
@@ -108,10 +109,11 @@ returns : tie.Need-returns Inv-loop μ-loop
 returns c =
     let l = c .before .before .before .before .before .loop in
     let s = now (c .before .before .before .before .before .before .before .before .args .s) in
-    sum-at _
+    sum-by {x = At (l .i)} _ refl
+    (sym
     (l .inv .3
     ∙ wrong-here class s (l .i) (omega arith)
-    (class-digit 0x23 _ refl ∙ sym (c .before .is-digit .ensures ∙ ap isDigit (c .before .before .wide .ensures)) ∙ c .if1 .left))
+    (class-digit 0x23 _ refl ∙ sym (c .before .is-digit .ensures ∙ ap isDigit (c .before .before .wide .ensures)) ∙ c .if1 .left)))
 
 returns-2 : tie.Need-returns-2 Inv-loop μ-loop
 returns-2 c =
