@@ -9,7 +9,7 @@ use lib.ListN.{getD}
 use Rattle.ascii.specs.Pick.{pick}
 use Rattle.ascii.proofs.Tests.{and-true}
 use Rattle.answer.specs.declared.reason.Reason.{Reason}
-use Rattle.answer.specs.declared.reason.Reason.the-variants.{NoReason, Long, Utf8, Form, Check, Zero, NoFigure, Scheme, Room, Good, Term, Line}
+use Rattle.answer.specs.declared.reason.Reason.the-variants.{NoReason, Long, Utf8, Form, Check, Zero, NoFigure, Scheme, Room, Good, Term, Line, Full}
 use Rattle.answer.specs.Numbers.{reasonNumber}
 use Rattle.answer.specs.Answers.{none, first}
 
@@ -37,7 +37,7 @@ module _ (r : Reason) where
 -- in the order of their numbers
 abbrev reasons : List Reason
 reasons =
-    NoReason ∷ Long ∷ Utf8 ∷ Form ∷ Check ∷ Zero ∷ NoFigure ∷ Scheme ∷ Room ∷ Good ∷ Term ∷ Line ∷ []
+    NoReason ∷ Long ∷ Utf8 ∷ Form ∷ Check ∷ Zero ∷ NoFigure ∷ Scheme ∷ Room ∷ Good ∷ Term ∷ Line ∷ Full ∷ []
 
 stands : (r : Reason) → getD reasons (reasonNumber r) NoReason ≡ r
 stands NoReason = refl
@@ -52,6 +52,7 @@ stands Room = refl
 stands Good = refl
 stands Term = refl
 stands Line = refl
+stands Full = refl
 
 abbrev each : (Reason → Bool) → List Reason → Bool
 each p [] = true

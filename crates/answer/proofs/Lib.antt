@@ -1,2 +1,3 @@
 -- Laws that every crate above may cite.
 pub mod Laws
+pub mod Numerals

@@ -1,6 +1,6 @@
 -- The four kinds of answer. Verdicts 0, 1 and 3 have reason 0; verdict 0 has rule and severity 0; a reason comes with verdict 2.
 use mathlib.Core.Bool.{Bool}
-use mathlib.Core.List.{List, [], _∷_}
+use mathlib.Core.List.{List, [], _∷_, _++_}
 use Prim.Native.Nat.{ℕ}
 use lib.Dec.{eqb}
 use Rattle.ascii.specs.Pick.{pick}
@@ -37,3 +37,8 @@ first r s = pick (none r) s r
 unfoldable pub answerNumbers : Answer → List ℕ
 answerNumbers a =
     verdictNumber (a .verdict) ∷ a .rule ∷ severityNumber (a .severity) ∷ reasonNumber (a .reason) ∷ []
+
+-- what is said of each answer, one after the other
+unfoldable pub inTurn : (Answer → List ℕ) → List Answer → List ℕ
+inTurn says [] = []
+inTurn says (a ∷ rest) = says a ++ inTurn says rest

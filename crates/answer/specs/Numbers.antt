@@ -5,7 +5,7 @@ use Rattle.answer.specs.declared.verdict.Verdict.the-variants.{NoRule, A
 use Rattle.answer.specs.declared.severity.Severity.{Severity}
 use Rattle.answer.specs.declared.severity.Severity.the-variants.{NoSeverity, Fatal, Warning}
 use Rattle.answer.specs.declared.reason.Reason.{Reason}
-use Rattle.answer.specs.declared.reason.Reason.the-variants.{NoReason, Long, Utf8, Form, Check, Zero, NoFigure, Scheme, Room, Good, Term, Line}
+use Rattle.answer.specs.declared.reason.Reason.the-variants.{NoReason, Long, Utf8, Form, Check, Zero, NoFigure, Scheme, Room, Good, Term, Line, Full}
 
 abbrev pub verdictNumber : Verdict → ℕ
 verdictNumber NoRule = 0
@@ -31,3 +31,4 @@ reasonNumber Room = 8
 reasonNumber Good = 9
 reasonNumber Term = 10
 reasonNumber Line = 11
+reasonNumber Full = 12

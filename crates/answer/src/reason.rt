@@ -17,6 +17,8 @@ pub enum Reason {
     Good,
     Term,
     Line,
+    // a tally that can count no further line
+    Full,
 }
 
 impl Reason {
@@ -36,6 +38,7 @@ impl Reason {
             Reason::Good => 9,
             Reason::Term => 10,
             Reason::Line => 11,
+            Reason::Full => 12,
         }
     }
 }

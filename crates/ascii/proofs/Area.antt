@@ -62,6 +62,10 @@ module _ {most : ℕ} {old : List ℕ} {at : ℕ} {b : List ℕ} {end : ℕ} {ne
     few = rw (length-append b c) (omega (arith, p .few, q .few));
   }
 
+  -- what is left behind it
+  pub put-room : (left : ℕ) → at + (most + left) ≤ length old → end + left ≤ length new
+  put-room left h = omega (arith, p .ends, p .few, put-size (omega (arith, p .few)))
+
   -- what `&new[..end]` is, and asks of its caller
   pub put-front : at ≡ 0 → take end new ≡ b
   put-front z =

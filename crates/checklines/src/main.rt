@@ -1,8 +1,8 @@
-// Answers each line of standard input by a line on standard output.
+// Answers each line of standard input by a line on standard output, and then says how many of them each rule accepted, refused and let through.
 ghost use Prim.Native.Nat.{_<_, _≤_};
 ghost use lib.ListN.{length};
+ghost use Rattle.answer.specs.Text.{answerRoom};
 ghost use Rattle.lines.specs.Line.{lineBytes};
-ghost use Rattle.lines.specs.Text.{answerRoom};
 use libc::STDIN_FILENO;
 use libc::STDOUT_FILENO;
 
@@ -21,8 +21,8 @@ fn write(text: &[u8]) -> bool {
     is_written
 }
 
-// One turn: reads behind what is kept, answers, and writes.
-fn turn(buf: &mut [u8], kept: usize, out: &mut [u8]) -> Next
+// One turn: reads behind what is kept, answers, counts, and writes. Where reading or writing fails, the counts are never written.
+fn turn(buf: &mut [u8], kept: usize, out: &mut [u8], counts: &mut [u32; 53]) -> Next
     requires { ⌜ kept < length (now buf) ⌝ }
     requires { ⌜ lineBytes < length (now buf) ⌝ }
     requires { ⌜ answerRoom ≤ length (now out) ⌝ }
@@ -34,7 +34,7 @@ fn turn(buf: &mut [u8], kept: usize, out: &mut [u8]) -> Next
         return Next { go: false, kept: 0 };
     }
     let fresh = io::count(got, &buf[kept..]);
-    let done = lines::turn(buf, kept, fresh, out);
+    let done = stream::turn(buf, kept, fresh, out, counts);
     let put = done.put;
     let is_written = write(&out[..put]);
     Next {
@@ -43,14 +43,14 @@ fn turn(buf: &mut [u8], kept: usize, out: &mut [u8]) -> Next
     }
 }
 
-fn answer_all(buf: &mut [u8], out: &mut [u8])
+fn answer_all(buf: &mut [u8], out: &mut [u8], counts: &mut [u32; 53])
     requires { ⌜ lineBytes < length (now buf) ⌝ }
     requires { ⌜ answerRoom ≤ length (now out) ⌝ }
 {
     let mut kept = 0;
     let mut turns = u64::MAX;
     while turns > 0 {
-        let t = turn(buf, kept, out);
+        let t = turn(buf, kept, out, counts);
         if !t.go {
             return;
         }
@@ -62,5 +62,6 @@ fn answer_all(buf: &mut [u8], out: &mut [u8])
 fn main() {
     let mut buf = io::large_buffer();
     let mut out = io::large_buffer();
-    answer_all(&mut buf, &mut out);
+    let mut counts = tally::fresh();
+    answer_all(&mut buf, &mut out, &mut counts);
 }

@@ -1,6 +1,9 @@
 // The commands, by their first letter: what each calls, and how its answer is written.
-use super::batch::show_batch;
 use super::escape::unescape;
+use super::many::show_batch;
+use super::tallies::fed;
+use super::tallies::show_counts;
+use super::tallies::show_tallied;
 use super::work::show_work;
 use answer::Answer;
 use libc::STDOUT_FILENO;
@@ -44,6 +47,14 @@ fn show_gln(field: &[u8]) {
     show_answer(checks::eas_value(&field[0..end], &field[start..n]));
 }
 
+// A line that is fed to a tally: its answer, and the counts after it.
+fn show_fed(field: &[u8]) {
+    let done = fed(field);
+    let counts = done.counts;
+    show_answer(done.answer);
+    show_counts(&counts);
+}
+
 // Which function a command names.
 fn call(command: u8, content: &[u8]) {
     match command {
@@ -58,6 +69,8 @@ fn call(command: u8, content: &[u8]) {
         b'w' => show_code(content),
         b'a' => show_answer(lines::answer_line(content)),
         b'b' => show_batch(content),
+        b't' => show_tallied(content),
+        b'T' => show_fed(content),
         b'k' | b'l' => show_work(command, content),
         _ => {
             io::write_all(STDOUT_FILENO, b" no such command");

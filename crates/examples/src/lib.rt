@@ -3,9 +3,10 @@ ghost use mathlib.Core.Path.{_≡_};
 ghost use Prim.Native.Nat.{_≤_};
 ghost use lib.ListN.{length};
 
-mod batch;
 mod commands;
 mod escape;
+mod many;
+mod tallies;
 mod work;
 
 use libc::STDIN_FILENO;

@@ -1,13 +1,22 @@
--- A loop that answers line after line into an area, whatever is written for a line. Assumes nothing.
+-- A loop that goes through the lines of a text and writes an answer for each. Assumes nothing.
 use mathlib.Core.Path.{_≡_, refl, sym, _∙_, ap}
-use mathlib.Core.List.{List, [], _++_, append-assoc, append-nil}
-use Prim.Native.Nat.{ℕ, _+_, _-_, _≤_}
-use native.Mathlib.Nat.{zero-add, sub-zero}
+use mathlib.Core.Bool.{Bool, true, false}
+use mathlib.Core.List.{List, [], _∷_, _++_, append-assoc, append-nil}
+use Prim.Native.Nat.{ℕ, suc, _+_, _-_, _*_, _≤_, _<_, min}
+use native.Mathlib.Nat.{mul-suc}
+use native.Mathlib.Numerals.{add-one}
 use native.Mathlib.Omega.{arith}
-use lib.ListN.{length, take, drop, length-drop}
-use lib.Seq.{take-all, drop-drop}
+use lib.Dec.{ltb}
+use lib.ListN.{length, take, drop, length-append, length-drop, drop-of-length-le}
+use lib.Seq.{take-all, drop-drop, length-take-le}
+use borrow.Author.Tests.{ltb-true, ltb-false}
 use Rattle.ascii.specs.Area.{Put}
 use Rattle.ascii.proofs.Area.{put-none, put-more, put-most, put-size}
+use Rattle.answer.specs.declared.record.Answer.{Answer}
+use Rattle.answer.specs.Answers.{inTurn}
+use Rattle.lines.specs.Lines.{split, linesOf, ended, extent, spanned}
+use Rattle.lines.specs.Inner.{upto}
+use Rattle.lines.proofs.Splits.{by, Open, upto-le, split-line, split-none, ended-open, fronted, lines-open, fronted-alone}
 
 pub part-tail : (s : List ℕ) (n : ℕ) → take (length s - n) (drop n s) ≡ drop n s
 part-tail s n = take-all (length s - n) (drop n s) (omega (arith, length-drop n s))
@@ -15,83 +24,153 @@ part-tail s n = take-all (length s - n) (drop n s) (omega (arith, length-drop n 
 pub part-len : (s : List ℕ) (used : ℕ) → length (take (length s - used) (drop used s)) ≡ length s - used
 part-len s used = rw (part-tail s used, length-drop used s)
 
--- W says what is written and U how much is used, by the room and the input:
--- what is written and used in all is what is done and then what remains
-pub record Feeding (W : ℕ → List ℕ → List ℕ) (U : ℕ → List ℕ → ℕ) (s old new : List ℕ) (used put : ℕ) : Type 0 where
-  pub done : List ℕ
-  pub laid : Put (length old) old 0 done put new
-  pub within : used ≤ length s
-  pub fits : put ≤ length new
-  pub size : length new ≡ length old
-  pub writes : W (length old) s ≡ done ++ W (length old - put) (drop used s)
-  pub uses : U (length old) s ≡ used + U (length old - put) (drop used s)
+-- ---- the first line of a text
 
-pub feeding-none : (W : ℕ → List ℕ → List ℕ) (U : ℕ → List ℕ → ℕ) (s o : List ℕ) → Feeding W U s o o 0 0
-feeding-none W U s o =
+-- where a newline ends it
+pub first-ended : (c : Bool) (s : List ℕ) → upto s < length s → split c s ≡ take (upto s) s ∷ split c (drop (upto s + 1) s)
+first-ended c s h = rw (append-nil s, append-nil (drop (upto s + 1) s)) at (split-line c s [] h)
+
+-- with a newline or without
+lines-first : (s : List ℕ) → 0 < length s → linesOf s ≡ take (upto s) s ∷ linesOf (drop (upto s + 1) s)
+lines-first [] h = absurd (omega arith)
+lines-first (b ∷ s) h =
+    by (ltb (upto (b ∷ s)) (length (b ∷ s))) (λ e. first-ended true (b ∷ s) (ltb-true _ _ e))
+    (λ e.
+    let o : Open (b ∷ s) = omega (arith, upto-le (b ∷ s), ltb-false (upto (b ∷ s)) (length (b ∷ s)) e) in
+    let past-all : length (b ∷ s) ≤ upto (b ∷ s) + 1 = omega (arith, o) in
+    let d : drop (upto (b ∷ s) + 1) (b ∷ s) ≡ [] = drop-of-length-le (b ∷ s) past-all in
+    let all : length (b ∷ s) ≤ upto (b ∷ s) = omega (arith, o) in
+    (rw (append-nil (b ∷ s)) at (lines-open (b ∷ s) [] o))
+    ∙ ap (λ (ls : List (List ℕ)). fronted (b ∷ s) ls) (split-none true)
+    ∙ fronted-alone b s
+    ∙ rw (d, split-none true, take-all (upto (b ∷ s)) (b ∷ s) all))
+
+-- l is the first line of s, of m bytes with its newline, if it has one
+pub record First (c : Bool) (s l : List ℕ) (m : ℕ) : Type 0 where
+  pub here : split c s ≡ l ∷ split c (drop m s)
+  pub bytes : m ≡ min (length s) (length l + 1)
+  pub some : 0 < length s
+
+pub first-whole : (c : Bool) (s : List ℕ) (n : ℕ) → n ≡ upto s → n < length s → First c s (take n s) (n + 1)
+first-whole c s n e h =
     record {
-      done = [];
-      laid = put-none (length o) o 0;
-      within = omega arith;
-      fits = omega arith;
-      size = refl;
-      writes = rw (sub-zero (length o));
-      uses = rw (sub-zero (length o)) (sym (zero-add (U (length o) s)));
+      here = rw (← e) at (first-ended c s (rw (← e) h));
+      bytes = omega (arith, length-take-le n s (omega arith));
+      some = omega arith;
     }
 
--- a line of m bytes is answered by `text`
-module _ (W : ℕ → List ℕ → List ℕ) (U : ℕ → List ℕ → ℕ) (s o new new′ rest text : List ℕ) (used used′ put put′ m most : ℕ) (f : Feeding W U s o new used put)
-    (er : rest ≡ take (length s - used) (drop used s)) (em : used′ ≡ used + m) (h : m ≤ length rest)
-    (ew : W (length o - put) rest ≡ text ++ W (length o - put - length text) (drop m rest))
-    (eu : U (length o - put) rest ≡ m + U (length o - put - length text) (drop m rest))
-    (room : put + most ≤ length new) (st : Put most new put text put′ new′) where
-  at-rest : drop used s ≡ rest
-  at-rest = sym (er ∙ part-tail s used)
+module _ (s : List ℕ) (n m : ℕ) (en : n ≡ upto s) (em : m ≡ min (n + 1) (length s)) where
+  past : drop (n + 1) s ≡ drop m s
+  past =
+      by (ltb n (length s))
+      (λ e.
+      let k : n + 1 ≡ m = omega (arith, em, ltb-true n (length s) e) in
+      ap (λ (i : ℕ). drop i s) k)
+      (λ e.
+      let h : length s ≤ n + 1 = omega (arith, ltb-false n (length s) e) in
+      let h′ : length s ≤ m = omega (arith, em, ltb-false n (length s) e) in
+      drop-of-length-le s h ∙ sym (drop-of-length-le s h′))
 
-  room-left : length o - put - length text ≡ length o - put′
-  room-left = omega (arith, st .ends)
-
-  rest-left : drop m rest ≡ drop used′ s
-  rest-left = ap (drop m) (sym at-rest) ∙ drop-drop m used s ∙ ap (λ (i : ℕ). drop i s) (sym em)
-
-  both : Put (length o + most) o 0 (f .done ++ text) put′ new′
-  both = put-more (f .laid) st (omega (arith, f .laid .few))
-
-  same-size : length new′ ≡ length new
-  same-size = put-size st (omega (arith, st .few))
-
-  writes-on : W (length o) s ≡ (f .done ++ text) ++ W (length o - put′) (drop used′ s)
-  writes-on =
-      f .writes
-      ∙ ap (λ (l : List ℕ). f .done ++ W (length o - put) l) at-rest
-      ∙ ap (λ (l : List ℕ). f .done ++ l) ew
-      ∙ sym (append-assoc (f .done) text (W (length o - put - length text) (drop m rest)))
-      ∙ ap (λ (r : ℕ). (f .done ++ text) ++ W r (drop m rest)) room-left
-      ∙ ap (λ (l : List ℕ). (f .done ++ text) ++ W (length o - put′) l) rest-left
-
-  uses-on : U (length o) s ≡ used′ + U (length o - put′) (drop used′ s)
-  uses-on =
-      let q : U (length o - put) (drop used s) ≡ m + U (length o - put′) (drop used′ s) =
-      ap (U (length o - put)) at-rest
-      ∙ eu
-      ∙ ap (λ (r : ℕ). m + U r (drop m rest)) room-left
-      ∙ ap (λ (l : List ℕ). m + U (length o - put′) l) rest-left in
-      omega (arith, f .uses, q)
-
-  pub feeding-on : Feeding W U s o new′ used′ put′
-  feeding-on =
+  pub first-any : 0 < length s → First true s (take n s) m
+  first-any h =
       record {
-        done = f .done ++ text;
-        laid = put-most both (omega (arith, both .ends, st .ends, st .few, f .size));
-        within = omega (arith, ap length er, part-len s used, f .within);
-        fits = omega (arith, st .ends, st .few, same-size);
-        size = same-size ∙ f .size;
-        writes = writes-on;
-        uses = uses-on;
+        here = rw (← en, past) at (lines-first s h);
+        bytes = omega (arith, em, length-take-le n s (omega (arith, en, upto-le s)));
+        some = h;
       }
 
--- where nothing remains to be written
-pub feeding-laid : (W : ℕ → List ℕ → List ℕ) (U : ℕ → List ℕ → ℕ) (s o new : List ℕ) (used put : ℕ) (f : Feeding W U s o new used put)
-    → W (length o - put) (drop used s) ≡ [] → Put (length o) o 0 (W (length o) s) put new
-feeding-laid W U s o new used put f e =
-    let all : W (length o) s ≡ f .done = f .writes ∙ ap (λ (l : List ℕ). f .done ++ l) e ∙ append-nil (f .done) in
-    rw all (f .laid)
+-- where s is what remains of a text
+module _ (s rest : List ℕ) (used n : ℕ) (e : rest ≡ take (length s - used) (drop used s)) (en : n ≡ upto rest) where
+  same : rest ≡ drop used s
+  same = e ∙ part-tail s used
+
+  pub rest-whole : (c : Bool) → n < length rest → First c (drop used s) (take n rest) (n + 1)
+  rest-whole c h = rw (← same) (first-whole c rest n en h)
+
+  pub rest-any : (m : ℕ) → m ≡ min (n + 1) (length rest) → used < length s → First true (drop used s) (take n rest) m
+  rest-any m em h = rw (← same) (first-any rest n m en em (omega (arith, ap length same, length-drop used s)))
+
+-- ---- line by line
+
+extent-more : (ls : List (List ℕ)) (l : List ℕ) → extent (ls ++ l ∷ []) ≡ extent ls + (length l + 1)
+unfolding extent
+extent-more [] l = omega arith
+extent-more (k ∷ ls) l = omega (arith, extent-more ls l)
+
+-- the first lines of s, so many as `most`, are those that are done and then the first of what remains, so many as are left
+pub record Through (c : Bool) (most : ℕ) (s : List ℕ) (used left : ℕ) (done : List (List ℕ)) : Type 0 where
+  pub parts : take most (split c s) ≡ done ++ take left (split c (drop used s))
+  pub number : length done + left ≡ most
+  pub spans : used ≡ min (length s) (extent done)
+
+pub through-none : (c : Bool) (most : ℕ) (s : List ℕ) → Through c most s 0 most []
+unfolding extent
+through-none c most s = record { parts = refl; number = omega arith; spans = omega arith }
+
+module _ (c : Bool) (most : ℕ) (s : List ℕ) (used left : ℕ) (done : List (List ℕ)) (t : Through c most s used left done) where
+  pub through-within : used ≤ length s
+  through-within = omega (arith, t .spans)
+
+  module _ (l : List ℕ) (m left′ : ℕ) (f : First c (drop used s) l m) (el : left ≡ suc left′) where
+    rest : take left (split c (drop used s)) ≡ (l ∷ []) ++ take left′ (split c (drop (used + m) s))
+    rest = rw (el, f .here, drop-drop m used s)
+
+    pub through-line : Through c most s (used + m) left′ (done ++ l ∷ [])
+    through-line =
+        record {
+          parts =
+              t .parts
+              ∙ ap (λ (ls : List (List ℕ)). done ++ ls) rest
+              ∙ sym (append-assoc done (l ∷ []) (take left′ (split c (drop (used + m) s))));
+          number = omega (arith, t .number, el, length-append done (l ∷ []));
+          spans = omega (arith, t .spans, f .bytes, f .some, length-drop used s, extent-more done l);
+        }
+
+  pub record Ended : Type 0 where
+    pub all : done ≡ take most (split c s)
+    pub bytes : used ≡ spanned s (take most (split c s))
+
+  -- where no line is left
+  pub through-ended : take left (split c (drop used s)) ≡ [] → Ended
+  unfolding spanned
+  through-ended e =
+      let d : done ≡ take most (split c s) = sym (t .parts ∙ ap (λ (ls : List (List ℕ)). done ++ ls) e ∙ append-nil done) in
+      record { all = d; bytes = rw (← d) (t .spans) }
+
+-- why none is left
+pub none-left : (left : ℕ) (ls : List (List ℕ)) → left ≡ 0 → take left ls ≡ []
+none-left left ls e = rw e
+
+pub open-left : (left : ℕ) (s : List ℕ) → Open s → take left (ended s) ≡ []
+open-left left s o = rw (ended-open s o) (take-all left [] (omega arith))
+
+pub end-left : (left used : ℕ) (c : Bool) (s : List ℕ) → length s ≤ used → take left (split c (drop used s)) ≡ []
+end-left left used c s h = rw (drop-of-length-le s h, split-none c) (take-all left [] (omega arith))
+
+-- ---- an answer for each
+
+pub in-turn-more : (says : Answer → List ℕ) (xs : List Answer) (a : Answer) → inTurn says (xs ++ a ∷ []) ≡ inTurn says xs ++ says a
+unfolding inTurn
+in-turn-more says [] a = append-nil (says a)
+in-turn-more says (b ∷ xs) a =
+    ap (λ (l : List ℕ). says b ++ l) (in-turn-more says xs a) ∙ sym (append-assoc (says b) (inTurn says xs) (says a))
+
+-- what is said of answers, each in so many bytes or numbers as `each`, stands in an area
+abbrev pub Said : (Answer → List ℕ) → ℕ → List ℕ → List Answer → ℕ → List ℕ → Type 0
+Said says each old xs put new = Put (each * length xs) old 0 (inTurn says xs) put new
+
+pub said-none : (says : Answer → List ℕ) (each : ℕ) (o : List ℕ) → Said says each o [] 0 o
+unfolding inTurn
+said-none says each o = put-none (each * 0) o 0
+
+pub said-more : (says : Answer → List ℕ) (each : ℕ) {o new new′ : List ℕ} (xs : List Answer) {put put′ : ℕ} (a : Answer)
+    → each * length xs ≤ length o → Said says each o xs put new → Put each new put (says a) put′ new′ → Said says each o (xs ++ a ∷ []) put′ new′
+said-more says each xs a h p q =
+    let few : each * length (xs ++ a ∷ []) ≡ each * length xs + each =
+    ap (λ (n : ℕ). each * n) (length-append xs (a ∷ []) ∙ add-one (length xs)) ∙ mul-suc each (length xs) in
+    rw (in-turn-more says xs a, few) (put-more p q (omega (arith, p .few)))
+
+-- where an area has room for so many answers, and fewer are said, it has room for another
+pub said-size : (says : Answer → List ℕ) (each : ℕ) {o new : List ℕ} (xs : List Answer) {put : ℕ}
+    → each * length xs ≤ length o → Said says each o xs put new → length new ≡ length o
+said-size says each xs h p = put-size p (omega (arith, p .few))

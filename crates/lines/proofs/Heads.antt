@@ -1,4 +1,4 @@
--- A line's head by the tests of the code; no line's answer looks beyond its 1,033rd byte. Assumes nothing.
+-- A line's head by the tests of the code; its answer's rule is below 1,000, and looks at no byte beyond the 1,033rd. Assumes nothing.
 use mathlib.Core.Path.{_≡_, _∙_, ap}
 use mathlib.Core.Bool.{Bool, true, false, _&&_}
 use mathlib.Core.List.{List, [], _∷_}
@@ -12,13 +12,16 @@ use lib.Seq.{take-nil, take-take, getD-take}
 use borrow.Author.Tests.{leb-true, le-leb, lt-leb}
 use Rattle.ascii.specs.Pick.{pick}
 use Rattle.ascii.specs.Class.{isDigit}
+use Rattle.ascii.specs.Written.{space}
 use Rattle.ascii.proofs.Tests.{and-true, both-ways}
 use Rattle.ascii.proofs.Class.{digit-bounds}
 use Rattle.answer.specs.declared.severity.Severity.the-variants.{NoSeverity}
 use Rattle.answer.specs.declared.reason.Reason.the-variants.{Line}
 use Rattle.answer.specs.Answers.{refused}
 use Rattle.checks.specs.Check.{checkOf}
-use Rattle.lines.specs.Line.{space, headOk, termOf, lineContent, lineBytes, answerOf}
+use Rattle.checks.proofs.Laws.{rule-small as check-small}
+use Rattle.answer.specs.declared.record.Answer.{Answer}
+use Rattle.lines.specs.Line.{headOk, termOf, lineContent, lineBytes, answerOf}
 
 -- ---- the head
 
@@ -61,6 +64,17 @@ pub answer-good : (s : List ℕ) (t : ℕ) (u : List ℕ) → headOk s ≡ true 
     → checkOf (take 4 s) t u ≡ answerOf s
 unfolding answerOf pick
 answer-good s t u e f g = rw (e, f, g)
+
+-- ---- its rule's number
+
+pick-small : (t : Bool) (x y : Answer) → x .rule < 1000 → y .rule < 1000 → (pick t x y) .rule < 1000
+unfolding pick
+pick-small true x y h k = h
+pick-small false x y h k = k
+
+pub rule-small : (line : List ℕ) → answerOf line .rule < 1000
+unfolding answerOf
+rule-small line = pick-small (headOk line) _ _ (check-small (take 4 line) (termOf line) (lineContent line)) (omega arith)
 
 -- ---- parts
 

@@ -1,10 +1,4 @@
--- Laws of lines, their answers and the stream of them.
+-- Laws of lines and their answers.
 pub mod Heads
-pub mod Small
-pub mod Texts
 pub mod Splits
 pub mod Feeding
-pub mod Windows
-pub mod Turns
-pub mod Batches
-pub mod Chunks

@@ -13,8 +13,7 @@ use borrow.Author.Tests.{eq-eqb, ne-eqb, eqb-false}
 use Rattle.ascii.proofs.Tests.{false-true}
 use Rattle.ascii.specs.Pick.{pick}
 use Rattle.ascii.specs.Class.{among}
-use Rattle.lines.specs.Stream.{inFront, split, linesOf}
-use Rattle.lines.specs.Turn.{ended}
+use Rattle.lines.specs.Lines.{inFront, split, linesOf, ended}
 use Rattle.lines.specs.Inner.{upto}
 
 pub by : {P : Type 0} (x : Bool) → (x ≡ true → P) → (x ≡ false → P) → P
@@ -61,7 +60,7 @@ among-none : among 10 [] ≡ false
 unfolding among
 among-none = refl
 
-split-none : (c : Bool) → split c [] ≡ []
+pub split-none : (c : Bool) → split c [] ≡ []
 unfolding split
 split-none c = refl
 

@@ -1,7 +1,4 @@
--- The line program: what a line says, what is answered, and the whole output of a whole input.
+-- Lines: what a line says, what is answered, and a text as lines.
 pub mod Line
-pub mod Text
-pub mod Stream
-pub mod Turn
-pub mod Batch
+pub mod Lines
 pub mod Inner

@@ -7,17 +7,12 @@ use lib.Dec.{leb, eqb}
 use lib.ListN.{length, take, drop, getD}
 use Rattle.ascii.specs.Pick.{pick}
 use Rattle.ascii.specs.Class.{isDigit}
+use Rattle.ascii.specs.Written.{space}
 use Rattle.answer.specs.declared.record.Answer.{Answer}
 use Rattle.answer.specs.declared.reason.Reason.the-variants.{Line}
 use Rattle.answer.specs.declared.severity.Severity.the-variants.{NoSeverity}
-use Rattle.answer.specs.Answers.{refused, answerNumbers}
+use Rattle.answer.specs.Answers.{refused}
 use Rattle.checks.specs.Check.{checkOf}
-
-abbrev pub space : ℕ
-space = code " "
-
-abbrev pub newline : ℕ
-newline = 10
 
 -- places counted from 0
 unfoldable pub headOk : List ℕ → Bool
@@ -39,6 +34,3 @@ lineBytes = 1033
 
 unfoldable pub answerOf : List ℕ → Answer
 answerOf s = pick (headOk s) (checkOf (take 4 s) (termOf s) (lineContent s)) (refused 0 NoSeverity Line)
-
-unfoldable pub lineNumbers : List ℕ → List ℕ
-lineNumbers s = answerNumbers (answerOf s)

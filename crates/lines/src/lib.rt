@@ -1,12 +1,7 @@
-// Lines: the answer to a line, and a stream of lines answered window by window.
-mod batch;
+// Lines: the answer to a line, and where a line ends.
 mod line;
-mod program;
-mod put;
-mod window;
+mod split;
 
-pub use batch::Batch;
-pub use batch::answer_lines;
 pub use line::answer_line;
-pub use program::Turned;
-pub use program::turn;
+pub use line::least;
+pub use split::line_len;

@@ -14,9 +14,9 @@ use ascii::is_digit;
 use ascii::wide;
 
 // The bytes that are read of a line: 8 of its head, and one more of its content than a rule may read.
-pub(crate) const LINE_BYTES: usize = 1033;
+const LINE_BYTES: usize = 1033;
 
-pub(crate) fn least(a: usize, b: usize) -> usize
+pub fn least(a: usize, b: usize) -> usize
     ensures { λ r. ⌜ r ≡ min a b ⌝ }
     ensures { λ r. ⌜ r ≤ a ⌝ }
 {

@@ -12,6 +12,7 @@ use Rattle.guard.specs.declared.code.Code.{Code}
 use Rattle.guard.specs.declared.code.Withdrawal.{Withdrawal}
 use Rattle.guard.specs.declared.code.Withdrawal.the-variants.{NotWithdrawn, NoSuccessor, Successor}
 use Rattle.corrections.specs.declared.done.Done.{Done}
+use Rattle.tally.specs.declared.counts.Fed.{Fed}
 use Rattle.ascii.specs.Area.{put}
 use Rattle.corrections.specs.Outcome.{Outcome}
 use Rattle.partyid.specs.declared.plain.PartyidAnswer.{PartyidAnswer}
@@ -43,6 +44,11 @@ plainAnswer a =
       severity = severityNumber (a .severity);
       reason = reasonNumber (a .reason);
     }
+
+-- a line's answer in plain numbers, and the counts that the caller lends
+pub record FedPlain (f : Fed) (r : PartyidAnswer) (counts : List ℕ) : Type 0 where
+  pub numbers : r ≡ plainAnswer (f .answer)
+  pub after : counts ≡ f .counts
 
 abbrev pub fourBytes : ℕ → Code → PartyidCode
 fourBytes n s = record { answer = n; a = s .a; b = s .b; c = s .c; d = s .d }

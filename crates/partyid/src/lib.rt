@@ -1,12 +1,13 @@
 // The library for programs in C and Rust: every public function, on any bytes, with numbers for its answer.
-mod batch;
+mod answers;
 mod checked;
 mod content;
+mod counts;
 mod plain;
 mod work;
 
-pub use batch::partyid_answer_line;
-pub use batch::partyid_answer_lines;
+pub use answers::partyid_answer_line;
+pub use answers::partyid_answer_lines;
 pub use checked::partyid_check;
 pub use checked::partyid_eas_value;
 pub use checked::partyid_is_valid_creditor_identifier;
@@ -16,6 +17,8 @@ pub use content::partyid_decode;
 pub use content::partyid_is_white;
 pub use content::partyid_normalize_space;
 pub use content::partyid_strip;
+pub use counts::partyid_tally_line;
+pub use counts::partyid_tally_lines;
 pub use plain::PartyidAnswer;
 pub use plain::PartyidBatch;
 pub use plain::PartyidCode;

@@ -8,10 +8,10 @@ use Rattle.checklines.proofs.answer_all.Statement.{statement}
 use Rattle.checklines.proofs.answer_all.Tie as tie
 
 abbrev Inv-loop : tie.InvT-loop
-Inv-loop buf₀ out₀ kept₀ turns₀ buf out kept turns = (length buf ≡ length buf₀) × (length out ≡ length out₀) × (kept < length buf)
+Inv-loop buf₀ out₀ counts₀ kept₀ turns₀ buf out counts kept turns = (length buf ≡ length buf₀) × (length out ≡ length out₀) × (kept < length buf)
 
 abbrev μ-loop : tie.MeasureT-loop
-μ-loop buf₀ out₀ kept₀ turns₀ buf out kept turns = turns
+μ-loop buf₀ out₀ counts₀ kept₀ turns₀ buf out counts kept turns = turns
 
 loop-holds : tie.Need-loop-holds Inv-loop μ-loop
 loop-holds c = (refl, refl, omega arith)

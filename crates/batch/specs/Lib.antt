@@ -1,0 +1,2 @@
+-- Many lines answered at once.
+pub mod Batch

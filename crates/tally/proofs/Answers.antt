@@ -1,0 +1,133 @@
+-- Every answer to a line has one cell, and two have the same exactly where rule and verdict are the same. Assumes nothing.
+use mathlib.Core.Path.{_≡_, refl, sym, ap, _∙_}
+use mathlib.Core.Bool.{Bool, true, false, _&&_}
+use mathlib.Core.List.{List, [], _∷_}
+use Prim.Native.Nat.{ℕ, _+_, _-_, _*_, _/_, _%_, _<_}
+use native.Mathlib.Omega.{arith}
+use lib.Dec.{eqb, ltb}
+use lib.ListN.{getD, take}
+use borrow.Author.Tests.{eqb-true, eq-eqb, lt-ltb}
+use Rattle.ascii.specs.Pick.{pick}
+use Rattle.ascii.proofs.Tests.{both-ways, and-true, true-and}
+use Rattle.answer.specs.declared.record.Answer.{Answer}
+use Rattle.answer.specs.declared.severity.Severity.the-variants.{NoSeverity}
+use Rattle.answer.specs.declared.reason.Reason.the-variants.{Line}
+use Rattle.answer.specs.declared.verdict.Verdict.{Verdict}
+use Rattle.answer.specs.declared.verdict.Verdict.the-variants.{NoRule as NoVerdict, Accepted, Refused, Unread}
+use Rattle.answer.specs.Numbers.{verdictNumber}
+use Rattle.answer.specs.Answers.{refused}
+use Rattle.rules.specs.declared.rule.Rule.{Rule}
+use Rattle.rules.specs.declared.rule.Rule.the-variants.{R40}
+use Rattle.rules.specs.declared.choice.Chosen.{Chosen}
+use Rattle.rules.specs.declared.choice.Chosen.the-variants.{By, NoRule, NoTerm}
+use Rattle.rules.specs.Facts.{facts, rules}
+use Rattle.rules.specs.Choice.{ruleFor, ruleNumbered}
+use Rattle.rules.proofs.Every.{number-back, at-index, index-small}
+use Rattle.checks.specs.Check.{onChosen, checkOf}
+use Rattle.checks.proofs.Laws.{by-number, by-judged}
+use Rattle.lines.specs.Line.{headOk, termOf, lineContent, answerOf}
+use Rattle.tally.specs.Cell.{placeOf, otherCell, cellOf}
+use Rattle.tally.proofs.Places.{place-small}
+
+-- an answer by a rule, or one of the two others: no rule reads the field; refused before a rule is chosen
+pub data Proper : Answer → Type 0 where
+  ruled : {a : Answer} (r : Rule) → a .rule ≡ facts r .number → 0 < verdictNumber (a .verdict) → Proper a
+  unread : {a : Answer} → a .rule ≡ 0 → a .verdict ≡ NoVerdict → Proper a
+  before : {a : Answer} → a .rule ≡ 0 → a .verdict ≡ Refused → Proper a
+
+-- ---- the answer to a line
+
+chosen-proper : (x : Chosen) (content : List ℕ) → Proper (onChosen x content)
+chosen-proper (By r) content = ruled r (by-number r content) (by-judged r content)
+chosen-proper NoRule content = unread refl refl
+chosen-proper NoTerm content = before refl refl
+
+pick-proper : (t : Bool) (a b : Answer) → Proper a → Proper b → Proper (pick t a b)
+unfolding pick
+pick-proper true a b p q = p
+pick-proper false a b p q = q
+
+-- every line is answered so
+pub line-proper : (l : List ℕ) → Proper (answerOf l)
+unfolding answerOf checkOf
+line-proper l =
+    let x = ruleFor (take 4 l) (termOf l) in
+    pick-proper (headOk l) (onChosen x (lineContent l)) (refused 0 NoSeverity Line) (chosen-proper x (lineContent l)) (before refl refl)
+
+-- ---- a cell leads back to rule and verdict
+
+abbrev ruleAt : ℕ → ℕ
+ruleAt k = pick (ltb k 51) (facts (getD rules (k / 3) R40) .number) 0
+
+abbrev verdictAt : ℕ → ℕ
+verdictAt k = pick (ltb k 51) (k % 3 + 1) (pick (eqb k 51) 0 2)
+
+place-number : (v : Verdict) → placeOf v ≡ verdictNumber v - 1
+place-number NoVerdict = refl
+place-number Accepted = refl
+place-number Refused = refl
+place-number Unread = refl
+
+abbrev Back : Answer → ℕ → Type 0
+Back a k = (a .rule ≡ ruleAt k) × (verdictNumber (a .verdict) ≡ verdictAt k)
+
+ruled-back : (a : Answer) (r : Rule) (k : ℕ) → a .rule ≡ facts r .number → 0 < verdictNumber (a .verdict) → k ≡ 3 * facts r .index + placeOf (a .verdict) → Back a k
+unfolding pick
+ruled-back a r k e h ek =
+    let small : k < 51 = omega (arith, index-small r, place-small (a .verdict)) in
+    let i : k / 3 ≡ facts r .index = omega (arith, place-small (a .verdict)) in
+    let p : verdictNumber (a .verdict) ≡ k % 3 + 1 = omega (arith, place-small (a .verdict), place-number (a .verdict)) in
+    rw (lt-ltb k 51 small, i, at-index r) (e, p)
+
+cell-ruled : (a : Answer) (r : Rule) → a .rule ≡ facts r .number → cellOf a ≡ 3 * facts r .index + placeOf (a .verdict)
+unfolding cellOf
+cell-ruled a r e = rw (e, number-back r)
+
+cell-other : (a : Answer) → a .rule ≡ 0 → cellOf a ≡ otherCell (a .verdict)
+unfolding cellOf ruleNumbered pick
+cell-other a e = rw e
+
+back : (a : Answer) → Proper a → Back a (cellOf a)
+unfolding pick
+back a (ruled r e h) = ruled-back a r (cellOf a) e h (cell-ruled a r e)
+back a (unread e v) = rw (cell-other a e, v) (e, refl)
+back a (before e v) = rw (cell-other a e, v) (e, refl)
+
+-- ---- the same cell
+
+abbrev verdicts : List Verdict
+verdicts = NoVerdict ∷ Accepted ∷ Refused ∷ Unread ∷ []
+
+verdict-back : (v : Verdict) → getD verdicts (verdictNumber v) NoVerdict ≡ v
+verdict-back NoVerdict = refl
+verdict-back Accepted = refl
+verdict-back Refused = refl
+verdict-back Unread = refl
+
+same-verdict : (v w : Verdict) → verdictNumber v ≡ verdictNumber w → v ≡ w
+same-verdict v w e = sym (verdict-back v) ∙ ap (λ (k : ℕ). getD verdicts k NoVerdict) e ∙ verdict-back w
+
+-- Two answers share a cell exactly where rule and verdict are the same.
+pub shares : (a b : Answer) → Proper a → Proper b → cellOf a ≡ cellOf b → (a .rule ≡ b .rule) × (a .verdict ≡ b .verdict)
+shares a b p q e =
+    let x = back a p in
+    let y = back b q in
+    (x .0 ∙ ap ruleAt e ∙ sym (y .0), same-verdict (a .verdict) (b .verdict) (x .1 ∙ ap verdictAt e ∙ sym (y .1)))
+
+pub shared : (a b : Answer) → a .rule ≡ b .rule → a .verdict ≡ b .verdict → cellOf a ≡ cellOf b
+unfolding cellOf
+shared a b e f = rw (e, f)
+
+-- whether an answer has a rule and a verdict
+abbrev pub isOf : ℕ → Verdict → Answer → Bool
+isOf rule verdict a = eqb (a .rule) rule && eqb (verdictNumber (a .verdict)) (verdictNumber verdict)
+
+pub same-cell : (a b : Answer) → Proper a → Proper b → eqb (cellOf a) (cellOf b) ≡ isOf (b .rule) (b .verdict) a
+same-cell a b p q =
+    both-ways (eqb (cellOf a) (cellOf b)) (isOf (b .rule) (b .verdict) a)
+    (λ e.
+    let s = shares a b p q (eqb-true _ _ e) in
+    true-and _ _ (eq-eqb _ _ (s .0)) (eq-eqb _ _ (ap verdictNumber (s .1))))
+    (λ e.
+    let s = and-true (eqb (a .rule) (b .rule)) (eqb (verdictNumber (a .verdict)) (verdictNumber (b .verdict))) e in
+    eq-eqb _ _ (shared a b (eqb-true _ _ (s .0)) (same-verdict (a .verdict) (b .verdict) (eqb-true _ _ (s .1)))))

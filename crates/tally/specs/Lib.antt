@@ -1,0 +1,5 @@
+-- A tally: counts over lines.
+pub mod Cell
+pub mod Tally
+pub mod Text
+pub mod Inner
