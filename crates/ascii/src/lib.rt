@@ -1,6 +1,5 @@
 // The classes of a byte or a code point: ASCII digits and letters, and lists of them.
 ghost use mathlib.Core.Path.{_≡_};
-ghost use Prim.Native.Nat.{_+_, _%_};
 ghost use Rattle.ascii.specs.Class.{isDigit, isLetter, isPlain, among};
 ghost use Rattle.ascii.specs.Written.{sameBytes};
 
@@ -28,13 +27,6 @@ pub fn is_plain(c: u32) -> bool
     ensures { λ r. ⌜ r ≡ isPlain c ⌝ }
 {
     is_digit(c) | is_letter(c)
-}
-
-// The last digit of a number, as it is written.
-pub fn last_digit(n: u32) -> u8
-    ensures { λ r. ⌜ r ≡ 48 + n % 10 ⌝ }
-{
-    (48 + n % 10) as u8
 }
 
 // Whether c stands in a list. Without a way out of its loop the compiler compares several entries at once.

@@ -3,7 +3,7 @@ ghost use mathlib.Core.Path.{_≡_};
 ghost use Prim.Native.Nat.{_+_, _*_, _<_};
 ghost use lib.ListN.{length};
 ghost use Rattle.rules.specs.Facts.{schemeRules};
-ghost use Rattle.rules.specs.Choice.{atTerm, ruleFor, ruleNumbered};
+ghost use Rattle.rules.specs.Choice.{atTerm, ruleFor};
 ghost use Rattle.rules.specs.Inner.{keyFrom, withKey};
 use super::rule::Rule;
 use ascii::among;
@@ -94,30 +94,4 @@ pub fn rule_for(scheme: &[u8], term: u32) -> Chosen
         return at_term(scheme, term);
     }
     Chosen::NoTerm
-}
-
-// The rule that has a published number.
-pub fn rule_numbered(number: u32) -> Chosen
-    ensures { λ r. ⌜ r ≡ ruleNumbered number ⌝ }
-{
-    match number {
-        40 => Chosen::By(Rule::R40),
-        41 => Chosen::By(Rule::R41),
-        42 => Chosen::By(Rule::R42),
-        43 => Chosen::By(Rule::R43),
-        44 => Chosen::By(Rule::R44),
-        45 => Chosen::By(Rule::R45),
-        46 => Chosen::By(Rule::R46),
-        47 => Chosen::By(Rule::R47),
-        49 => Chosen::By(Rule::R49),
-        50 => Chosen::By(Rule::R50),
-        52 => Chosen::By(Rule::R52),
-        53 => Chosen::By(Rule::R53),
-        54 => Chosen::By(Rule::R54),
-        55 => Chosen::By(Rule::R55),
-        57 => Chosen::By(Rule::R57),
-        561 => Chosen::By(Rule::R561),
-        562 => Chosen::By(Rule::R562),
-        _ => Chosen::NoRule,
-    }
 }

@@ -5,7 +5,6 @@ mod rule;
 
 pub use choice::Chosen;
 pub use choice::rule_for;
-pub use choice::rule_numbered;
 pub use judge::finding;
 pub use rule::Fixed;
 pub use rule::Rule;

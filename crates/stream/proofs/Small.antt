@@ -4,7 +4,6 @@ use mathlib.Core.List.{List}
 use mathlib.Core.Path.{_≡_}
 use Prim.Native.Nat.{ℕ, _<_}
 use native.Mathlib.Omega.{arith}
-use lib.ListN.{take}
 use Rattle.ascii.specs.Pick.{pick}
 use Rattle.answer.specs.declared.record.Answer.{Answer}
 use Rattle.answer.specs.declared.verdict.Verdict.{Verdict}
@@ -13,10 +12,8 @@ use Rattle.answer.specs.declared.severity.Severity.{Severity}
 use Rattle.answer.specs.declared.severity.Severity.the-variants.{NoSeverity, Fatal, Warning}
 use Rattle.answer.specs.Numbers.{verdictNumber, severityNumber}
 use Rattle.lines.proofs.Heads.{rule-small}
-use Rattle.lines.specs.Line.{answerOf}
 use Rattle.tally.specs.declared.counts.Fed.{Fed}
-use Rattle.tally.specs.Tally.{isFull, fullAnswer, oneMore, fed}
-use Rattle.tally.specs.Inner.{raised, fedIf, fedIn}
+use Rattle.tally.specs.Inner.{fedIf, fedIn}
 
 pub verdict-small : (v : Verdict) → verdictNumber v < 1000
 verdict-small NoRule = omega arith
@@ -39,12 +36,5 @@ known-small : (t : Bool) (counts line : List ℕ) → fedIf t counts line .answe
 unfolding fedIf
 known-small t counts line = pick-small t _ _ (omega arith) (rule-small line)
 
-fed-small : (counts line : List ℕ) → fed counts line .answer .rule < 1000
-unfolding fed
-fed-small counts line = pick-small (isFull counts) _ _ (omega arith) (rule-small line)
-
 pub reply-small : {a : Answer} {counts′ : List ℕ} (t : Bool) (counts line : List ℕ) → fedIn a counts′ ≡ fedIf t counts line → a .rule < 1000
 reply-small t counts line e = let h = known-small t counts line in rw (← e) at h
-
-pub answer-small : {a : Answer} {counts′ : List ℕ} (counts line : List ℕ) → fedIn a counts′ ≡ fed counts line → a .rule < 1000
-answer-small counts line e = let h = fed-small counts line in rw (← e) at h

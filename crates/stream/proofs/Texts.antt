@@ -16,27 +16,19 @@ use Rattle.answer.proofs.Numerals.{numeral-one, numeral-more}
 -- ---- a number of one to three digits
 
 module _ (l : List ℕ) (at n : ℕ) (free : at + 3 ≤ length l) where
-  pub put-one : n < 10 → Put 3 l at (numeral n) (at + 1) (set l at (48 + n % 10))
-  put-one h =
-      let d : n % 10 ≡ n = omega arith in
-      rw (numeral-one n h, d) (put-stores refl refl (omega arith) (omega arith))
+  pub put-one : n < 10 → Put 3 l at (numeral n) (at + 1) (set l at (48 + n))
+  put-one h = rw (numeral-one n h) (put-stores refl refl (omega arith) (omega arith))
 
-  two : 10 ≤ n → n / 10 < 10 → numeral n ≡ (48 + n / 10 % 10) ∷ (48 + n % 10) ∷ []
-  two h k =
-      let d : n / 10 % 10 ≡ n / 10 = omega arith in
-      rw (numeral-more n h (omega arith), numeral-one (n / 10) k, d)
-
-  pub put-two : 10 ≤ n → n / 10 < 10 → Put 3 l at (numeral n) (at + 1 + 1) (set (set l at (48 + n / 10 % 10)) (at + 1) (48 + n % 10))
-  put-two h k = rw (two h k) (put-stores (simp add-one) (omega arith) (omega arith) (omega arith))
-
-  three : 10 ≤ n → 10 ≤ n / 10 → n / 10 / 10 < 10 → numeral n ≡ (48 + n / 10 / 10 % 10) ∷ (48 + n / 10 % 10) ∷ (48 + n % 10) ∷ []
-  three h k m =
-      let d : n / 10 / 10 % 10 ≡ n / 10 / 10 = omega arith in
-      rw (numeral-more n h (omega arith), numeral-more (n / 10) k (omega arith), numeral-one (n / 10 / 10) m, d)
+  pub put-two : 10 ≤ n → n / 10 < 10 → Put 3 l at (numeral n) (at + 1 + 1) (set (set l at (48 + n / 10)) (at + 1) (48 + n % 10))
+  put-two h k =
+      rw (numeral-more n h (omega arith), numeral-one (n / 10) k)
+      (put-stores (simp add-one) (omega arith) (omega arith) (omega arith))
 
   pub put-three : 10 ≤ n → 10 ≤ n / 10 → n / 10 / 10 < 10
-      → Put 3 l at (numeral n) (at + 1 + 1 + 1) (set (set (set l at (48 + n / 10 / 10 % 10)) (at + 1) (48 + n / 10 % 10)) (at + 1 + 1) (48 + n % 10))
-  put-three h k m = rw (three h k m) (put-stores (simp add-one) (omega arith) (omega arith) (omega arith))
+      → Put 3 l at (numeral n) (at + 1 + 1 + 1) (set (set (set l at (48 + n / 10 / 10)) (at + 1) (48 + n / 10 % 10)) (at + 1 + 1) (48 + n % 10))
+  put-three h k m =
+      rw (numeral-more n h (omega arith), numeral-more (n / 10) k (omega arith), numeral-one (n / 10 / 10) m)
+      (put-stores (simp add-one) (omega arith) (omega arith) (omega arith))
 
 -- the fields of an answer, one behind the other, are its text
 pub put-fields : (a : Answer) (v s w : ℕ) {o o₁ o₂ o₃ o₄ : List ℕ} {at k m n r : ℕ} → at + answerRoom ≤ length o

@@ -23,13 +23,14 @@ use Rattle.lines.proofs.Heads.{drop-take}
 use Rattle.lines.proofs.Splits.{by, Open, upto-le, split-none, ended-line, ended-open, among-line, among-open, lines-open, fronted-alone}
 use Rattle.lines.proofs.Feeding.{First, Through, through-none, through-line, through-within, through-ended, Said, said-none, said-more, said-size, part-tail, none-left, open-left}
 use Rattle.tally.specs.declared.counts.Fed.{Fed}
-use Rattle.tally.specs.Tally.{fed, replies, after}
+use Rattle.tally.specs.Tally.{isFull, fed, replies, after}
 use Rattle.tally.specs.Text.{tallyText, tallyRoom}
-use Rattle.tally.specs.Inner.{fedIf, fedIn}
+use Rattle.tally.specs.Inner.{leftIn, fedIf}
+use Rattle.tally.proofs.Feeding.{full-left, fed-known}
 use Rattle.tally.proofs.Running.{Running, running-reply, running-line, replies-length}
 use Rattle.stream.specs.Output.{answersText, told}
 use Rattle.stream.specs.Turn.{fitting, clipped, keptOf, closingRoom}
-use Rattle.stream.specs.Inner.{FedRight, StepRight, LastRight, ClosedRight}
+use Rattle.stream.specs.Inner.{LineRight, FedRight, StepRight, LastRight, ClosedRight}
 
 -- ---- feeding, line by line
 
@@ -65,15 +66,15 @@ module _ {s counts₀ counts o new : List ℕ} {more room used put : ℕ} (i : S
   pub streaming-room : 0 < room → put + answerRoom ≤ length new
   streaming-room h = omega (arith, i .said .ends, i .said .few, each, i .through .number, streaming-size)
 
-  pub streaming-line : (l : List ℕ) (m : ℕ) (a : Answer) {counts′ new′ : List ℕ} {more′ room′ used′ put′ : ℕ} → used′ ≡ used + m → First false (drop used s) l m → 0 < room → room′ ≡ room - 1
-      → fedIn a counts′ ≡ fedIf (eqb more 0) counts l → more′ ≡ more - 1 → Put answerRoom new put (answerText a) put′ new′
+  pub streaming-line : (l : List ℕ) (m : ℕ) {counts′ new′ : List ℕ} {more′ room′ used′ put′ : ℕ} → used′ ≡ used + m → First false (drop used s) l m → 0 < room → room′ ≡ room - 1
+      → more′ ≡ more - 1 → LineRight more l counts counts′ new new′ put put′
       → Streaming s counts₀ counts′ o new′ more′ room′ used′ put′
-  streaming-line l m a {room′ = room′} eu f h er e em p =
+  streaming-line l m {room′ = room′} eu f h er em p =
       record {
         done = i .done ++ l ∷ [];
         through = rw eu (through-line false (length o / answerRoom) s used room (i .done) (i .through) l m room′ f (omega arith));
-        said = rw (running-reply l (i .running) e) (said-more answerText answerRoom (replies counts₀ (i .done)) a in-room (i .said) p);
-        running = running-line l (i .running) e em;
+        said = rw (running-reply l (i .running) (p .fed)) (said-more answerText answerRoom (replies counts₀ (i .done)) (p .answer) in-room (i .said) (p .written));
+        running = running-line l (i .running) (p .fed) em;
       }
 
   -- no whole line is left, or no room
@@ -206,12 +207,14 @@ unfolding replies after inTurn
 last-none s counts o e =
     record { written = rw (lines-empty s e) (put-none answerRoom o 0); tallied = rw (lines-empty s e) }
 
-pub last-line : (s counts o : List ℕ) {counts′ o′ : List ℕ} (a : Answer) {put : ℕ} → Open s → (length s ≡ 0 → ⊥)
-    → fedIn a counts′ ≡ fed counts s → Put answerRoom o 0 (answerText a) put o′ → LastRight answerRoom s counts counts′ o o′ put
+pub last-line : (s counts o : List ℕ) {counts′ o′ : List ℕ} {left put : ℕ} → Open s → (length s ≡ 0 → ⊥)
+    → left ≡ leftIn counts → LineRight left s counts counts′ o o′ 0 put → LastRight answerRoom s counts counts′ o o′ put
 unfolding replies after inTurn
-last-line s counts o a op n e p =
+last-line s counts o {left = left} op n el p =
+    let k : eqb left 0 ≡ isFull counts = ap (λ (i : ℕ). eqb i 0) el ∙ full-left counts in
+    let e = p .fed ∙ ap (λ (t : Bool). fedIf t counts s) k ∙ fed-known counts s in
     record {
-      written = rw (lines-last s op n, ← e, append-nil (answerText a)) p;
+      written = rw (lines-last s op n, ← e, append-nil (answerText (p .answer))) (p .written);
       tallied = rw (lines-last s op n) (ap (λ (f : Fed). f .counts) e);
     }
 

@@ -2,14 +2,23 @@
 use mathlib.Core.Path.{_≡_}
 use mathlib.Core.List.{List}
 use Prim.Native.Nat.{ℕ, _≤_, _<_}
+use lib.Dec.{eqb}
 use lib.ListN.{length}
 use Rattle.ascii.specs.Area.{Put}
-use Rattle.answer.specs.Text.{answerRoom}
+use Rattle.answer.specs.declared.record.Answer.{Answer}
+use Rattle.answer.specs.Text.{answerText, answerRoom}
 use Rattle.lines.specs.Line.{lineBytes}
 use Rattle.lines.specs.Lines.{linesOf, spanned}
 use Rattle.tally.specs.Tally.{after}
+use Rattle.tally.specs.Inner.{fedIf, fedIn}
 use Rattle.stream.specs.Output.{answersText, told}
 use Rattle.stream.specs.Turn.{fitting, keptOf}
+
+-- a line is fed to a tally that counts `more` lines, and its answer is written from `at` on
+pub record LineRight (more : ℕ) (line counts counts′ out out′ : List ℕ) (at end : ℕ) : Type 0 where
+  pub answer : Answer
+  pub fed : fedIn answer counts′ ≡ fedIf (eqb more 0) counts line
+  pub written : Put answerRoom out at (answerText answer) end out′
 
 -- the whole lines of s are answered, as many as there is room for: `used` bytes of it
 pub record FedRight (s counts counts′ out out′ : List ℕ) (used put : ℕ) : Type 0 where

@@ -8,10 +8,8 @@ ghost use Rattle.lines.specs.Inner.{upto};
 ghost use Rattle.stream.specs.Turn.{clipped, closingRoom};
 ghost use Rattle.stream.specs.Inner.{FedRight, StepRight, LastRight, ClosedRight};
 use super::put::ANSWER_ROOM;
-use super::put::put_answer;
+use super::put::put_line;
 use lines::line_len;
-use tally::count;
-use tally::feed_line;
 use tally::fewer;
 use tally::left;
 use tally::put_text;
@@ -39,8 +37,7 @@ fn feed(s: &[u8], out: &mut [u8], counts: &mut [u32; 53]) -> Fed
         if n == rest.len() {
             return Fed { used, put };
         }
-        let a = count(counts, more == 0, &rest[..n]);
-        put = put_answer(a, out, put);
+        put = put_line(&rest[..n], out, put, counts, more);
         more = fewer(more);
         used = used + n + 1;
         room -= 1;
@@ -103,8 +100,8 @@ fn last(s: &[u8], out: &mut [u8], counts: &mut [u32; 53]) -> usize
     if s.len() == 0 {
         return 0;
     }
-    let a = feed_line(counts, s);
-    put_answer(a, out, 0)
+    let more = left(counts);
+    put_line(s, out, 0, counts, more)
 }
 
 // The end: a last line's answer, and the text of the tally.

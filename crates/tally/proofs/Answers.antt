@@ -26,20 +26,14 @@ use Rattle.rules.proofs.Every.{number-back, at-index, index-small}
 use Rattle.checks.specs.Check.{onChosen, checkOf}
 use Rattle.checks.proofs.Laws.{by-number, by-judged}
 use Rattle.lines.specs.Line.{headOk, termOf, lineContent, answerOf}
-use Rattle.tally.specs.Cell.{placeOf, otherCell, cellOf}
-use Rattle.tally.proofs.Places.{place-small}
-
--- an answer by a rule, or one of the two others: no rule reads the field; refused before a rule is chosen
-pub data Proper : Answer → Type 0 where
-  ruled : {a : Answer} (r : Rule) → a .rule ≡ facts r .number → 0 < verdictNumber (a .verdict) → Proper a
-  unread : {a : Answer} → a .rule ≡ 0 → a .verdict ≡ NoVerdict → Proper a
-  before : {a : Answer} → a .rule ≡ 0 → a .verdict ≡ Refused → Proper a
+use Rattle.tally.specs.Cell.{otherCell, cellOf, Proper, ruled, unruled, before}
+use Rattle.tally.proofs.Places.{verdict-few}
 
 -- ---- the answer to a line
 
 chosen-proper : (x : Chosen) (content : List ℕ) → Proper (onChosen x content)
 chosen-proper (By r) content = ruled r (by-number r content) (by-judged r content)
-chosen-proper NoRule content = unread refl refl
+chosen-proper NoRule content = unruled refl refl
 chosen-proper NoTerm content = before refl refl
 
 pick-proper : (t : Bool) (a b : Answer) → Proper a → Proper b → Proper (pick t a b)
@@ -62,24 +56,18 @@ ruleAt k = pick (ltb k 51) (facts (getD rules (k / 3) R40) .number) 0
 abbrev verdictAt : ℕ → ℕ
 verdictAt k = pick (ltb k 51) (k % 3 + 1) (pick (eqb k 51) 0 2)
 
-place-number : (v : Verdict) → placeOf v ≡ verdictNumber v - 1
-place-number NoVerdict = refl
-place-number Accepted = refl
-place-number Refused = refl
-place-number Unread = refl
-
 abbrev Back : Answer → ℕ → Type 0
 Back a k = (a .rule ≡ ruleAt k) × (verdictNumber (a .verdict) ≡ verdictAt k)
 
-ruled-back : (a : Answer) (r : Rule) (k : ℕ) → a .rule ≡ facts r .number → 0 < verdictNumber (a .verdict) → k ≡ 3 * facts r .index + placeOf (a .verdict) → Back a k
+ruled-back : (a : Answer) (r : Rule) (k : ℕ) → a .rule ≡ facts r .number → 0 < verdictNumber (a .verdict) → k ≡ 3 * facts r .index + (verdictNumber (a .verdict) - 1) → Back a k
 unfolding pick
 ruled-back a r k e h ek =
-    let small : k < 51 = omega (arith, index-small r, place-small (a .verdict)) in
-    let i : k / 3 ≡ facts r .index = omega (arith, place-small (a .verdict)) in
-    let p : verdictNumber (a .verdict) ≡ k % 3 + 1 = omega (arith, place-small (a .verdict), place-number (a .verdict)) in
+    let small : k < 51 = omega (arith, index-small r, verdict-few (a .verdict)) in
+    let i : k / 3 ≡ facts r .index = omega (arith, verdict-few (a .verdict)) in
+    let p : verdictNumber (a .verdict) ≡ k % 3 + 1 = omega (arith, verdict-few (a .verdict)) in
     rw (lt-ltb k 51 small, i, at-index r) (e, p)
 
-cell-ruled : (a : Answer) (r : Rule) → a .rule ≡ facts r .number → cellOf a ≡ 3 * facts r .index + placeOf (a .verdict)
+cell-ruled : (a : Answer) (r : Rule) → a .rule ≡ facts r .number → cellOf a ≡ 3 * facts r .index + (verdictNumber (a .verdict) - 1)
 unfolding cellOf
 cell-ruled a r e = rw (e, number-back r)
 
@@ -90,7 +78,7 @@ cell-other a e = rw e
 back : (a : Answer) → Proper a → Back a (cellOf a)
 unfolding pick
 back a (ruled r e h) = ruled-back a r (cellOf a) e h (cell-ruled a r e)
-back a (unread e v) = rw (cell-other a e, v) (e, refl)
+back a (unruled e v) = rw (cell-other a e, v) (e, refl)
 back a (before e v) = rw (cell-other a e, v) (e, refl)
 
 -- ---- the same cell

@@ -2,12 +2,12 @@
 use mathlib.Core.Path.{_≡_, refl, sym, ap, _∙_}
 use mathlib.Core.Bool.{Bool, true, false}
 use mathlib.Core.List.{List, [], _∷_, _++_}
-use Prim.Native.Nat.{ℕ, zero, suc, _+_, _-_, _*_, _≤_, _<_, min}
+use Prim.Native.Nat.{ℕ, zero, suc, _+_, _-_, _*_, _%_, _≤_, _<_}
 use native.Mathlib.Numerals.{add-one}
 use native.Mathlib.Omega.{arith}
 use lib.Dec.{leb, eqb}
 use lib.ListN.{length, drop, getD, set, drop-of-length-le}
-use lib.Seq.{drop-cons, set-getD}
+use lib.Seq.{drop-cons}
 use borrow.Author.Tests.{leb-true, leb-false, le-leb, lt-leb, eq-eqb, ne-eqb}
 use Rattle.ascii.specs.Pick.{pick}
 use Rattle.answer.specs.declared.record.Answer.{Answer}
@@ -62,19 +62,6 @@ full-left counts = at-leb (leb limit (total counts)) refl
 
 -- ---- what the code does
 
-module _ (counts : List ℕ) (k : ℕ) where
-  pub raised-below : getD counts k 0 < limit → set counts k (getD counts k 0 + 1) ≡ raised counts k
-  unfolding raised
-  raised-below h =
-      let e : min limit (getD counts k 0 + 1) ≡ getD counts k 0 + 1 = omega arith in
-      rw e
-
-  pub raised-full : getD counts k 0 < 4294967296 → limit ≤ getD counts k 0 → counts ≡ raised counts k
-  unfolding raised
-  raised-full h n =
-      let e : min limit (getD counts k 0 + 1) ≡ getD counts k 0 = omega (arith, h, n) in
-      rw e (sym (set-getD counts k 0))
-
 module _ (full : Bool) (counts line : List ℕ) {a : Answer} where
   pub fed-full : full ≡ true → a ≡ fullAnswer → fedIn a counts ≡ fedIf full counts line
   unfolding fedIf pick
@@ -89,7 +76,7 @@ module _ (full : Bool) (counts line : List ℕ) {a : Answer} where
 raised-more : (counts : List ℕ) (k : ℕ) → total counts < limit → raised counts k ≡ oneMore counts k
 unfolding raised oneMore
 raised-more counts k h =
-    let e : min limit (getD counts k 0 + 1) ≡ getD counts k 0 + 1 = omega (arith, count-le counts k) in
+    let e : (getD counts k 0 + 1) % 4294967296 ≡ getD counts k 0 + 1 = omega (arith, count-le counts k) in
     rw e
 
 pub fed-known : (counts line : List ℕ) → fedIf (isFull counts) counts line ≡ fed counts line

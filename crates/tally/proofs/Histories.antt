@@ -13,10 +13,10 @@ use Rattle.ascii.specs.Pick.{pick}
 use Rattle.answer.specs.declared.record.Answer.{Answer}
 use Rattle.answer.specs.declared.verdict.Verdict.{Verdict}
 use Rattle.lines.specs.Line.{answerOf}
-use Rattle.tally.specs.Cell.{cells, cellOf}
+use Rattle.tally.specs.Cell.{cells, cellOf, Proper}
 use Rattle.tally.specs.Tally.{fresh, total, limit, isFull, fullAnswer, oneMore, fed, after}
 use Rattle.tally.proofs.Places.{cell-small}
-use Rattle.tally.proofs.Answers.{Proper, isOf, same-cell, line-proper}
+use Rattle.tally.proofs.Answers.{isOf, same-cell, line-proper}
 use Rattle.tally.proofs.Feeding.{total-more, count-le}
 
 -- ---- one line

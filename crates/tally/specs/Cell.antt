@@ -1,8 +1,11 @@
 -- Which of a tally's counts an answer goes to, by its rule and its verdict.
-use Prim.Native.Nat.{ℕ, _+_, _*_}
+use mathlib.Core.Path.{_≡_}
+use Prim.Native.Nat.{ℕ, _+_, _-_, _*_, _<_}
 use Rattle.answer.specs.declared.record.Answer.{Answer}
 use Rattle.answer.specs.declared.verdict.Verdict.{Verdict}
 use Rattle.answer.specs.declared.verdict.Verdict.the-variants.{NoRule as NoVerdict, Accepted, Refused, Unread}
+use Rattle.answer.specs.Numbers.{verdictNumber}
+use Rattle.rules.specs.declared.rule.Rule.{Rule}
 use Rattle.rules.specs.declared.choice.Chosen.{Chosen}
 use Rattle.rules.specs.declared.choice.Chosen.the-variants.{By, NoRule, NoTerm}
 use Rattle.rules.specs.Facts.{facts}
@@ -19,18 +22,17 @@ otherCell Accepted = 52
 otherCell Refused = 52
 otherCell Unread = 52
 
--- the place of a verdict among the three of a rule: 1, 2, 3. Verdict 0 comes with no rule
-abbrev pub placeOf : Verdict → ℕ
-placeOf NoVerdict = 0
-placeOf Accepted = 0
-placeOf Refused = 1
-placeOf Unread = 2
-
--- three for each rule, in the order of their numbers
+-- three for each rule, in the order of their numbers: for verdicts 1, 2 and 3
 abbrev pub cellBy : Chosen → Verdict → ℕ
-cellBy (By r) v = 3 * facts r .index + placeOf v
+cellBy (By r) v = 3 * facts r .index + (verdictNumber v - 1)
 cellBy NoRule v = otherCell v
 cellBy NoTerm v = otherCell v
 
 unfoldable pub cellOf : Answer → ℕ
 cellOf a = cellBy (ruleNumbered (a .rule)) (a .verdict)
+
+-- the answers that a line can have: by a rule; no rule reads the field; refused before a rule is chosen
+pub data Proper : Answer → Type 0 where
+  ruled : {a : Answer} (r : Rule) → a .rule ≡ facts r .number → 0 < verdictNumber (a .verdict) → Proper a
+  unruled : {a : Answer} → a .rule ≡ 0 → a .verdict ≡ NoVerdict → Proper a
+  before : {a : Answer} → a .rule ≡ 0 → a .verdict ≡ Refused → Proper a

@@ -1,11 +1,11 @@
 // Which count an answer goes to.
 ghost use mathlib.Core.Path.{_≡_};
 ghost use Prim.Native.Nat.{_<_};
-ghost use Rattle.tally.specs.Cell.{cells, otherCell, placeOf, cellOf};
+ghost use Rattle.rules.specs.Choice.{ruleNumbered};
+ghost use Rattle.tally.specs.Cell.{cells, otherCell, cellOf, Proper};
+ghost use Rattle.tally.specs.Inner.{firstBy};
 use answer::Answer;
 use answer::Verdict;
-use rules::Chosen;
-use rules::rule_numbered;
 
 fn other_cell(verdict: Verdict) -> usize
     ensures { λ r. ⌜ r ≡ otherCell verdict ⌝ }
@@ -18,27 +18,42 @@ fn other_cell(verdict: Verdict) -> usize
     }
 }
 
-// The place of a verdict among the three of a rule.
-fn place(verdict: Verdict) -> usize
-    ensures { λ r. ⌜ r ≡ placeOf verdict ⌝ }
+// The first of the three cells of the rule that has a number. The compiler looks numbers of two digits up, with one answer for all others.
+fn first_cell(number: u32) -> usize
+    requires { ⌜ firstBy (ruleNumbered number) < 51 ⌝ }
+    ensures { λ r. ⌜ r ≡ firstBy (ruleNumbered number) ⌝ }
 {
-    match verdict {
-        Verdict::NoRule => 0,
-        Verdict::Accepted => 0,
-        Verdict::Refused => 1,
-        Verdict::Unread => 2,
+    if number == 561 {
+        return 45;
+    }
+    match number {
+        40 => 0,
+        41 => 3,
+        42 => 6,
+        43 => 9,
+        44 => 12,
+        45 => 15,
+        46 => 18,
+        47 => 21,
+        49 => 24,
+        50 => 27,
+        52 => 30,
+        53 => 33,
+        54 => 36,
+        55 => 39,
+        57 => 42,
+        _ => 48,
     }
 }
 
 pub(crate) fn cell(a: Answer) -> usize
+    requires { ⌜ Proper a ⌝ }
     ensures { λ r. ⌜ r ≡ cellOf a ⌝ }
     ensures { λ r. ⌜ r < cells ⌝ }
 {
     let verdict = a.verdict;
-    let by = rule_numbered(a.rule);
-    match by {
-        Chosen::By(r) => 3 * r.index() + place(verdict),
-        Chosen::NoRule => other_cell(verdict),
-        Chosen::NoTerm => other_cell(verdict),
+    if a.rule == 0 {
+        return other_cell(verdict);
     }
+    first_cell(a.rule) + (verdict.number() as usize) - 1
 }

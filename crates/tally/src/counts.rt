@@ -67,10 +67,7 @@ fn raise(counts: &mut [u32], cell: usize)
     requires { ⌜ cell < length (now counts) ⌝ }
     ensures { λ _. ⌜ now (counts .exit) ≡ raised (now (counts .entry)) cell ⌝ }
 {
-    let c = counts[cell];
-    if c < u32::MAX {
-        counts[cell] = c + 1;
-    }
+    counts[cell] = std::num::wrapping_add_u32(counts[cell], 1);
 }
 
 // Feeds a line to a tally of which the caller knows whether it is full: a loop over lines need not add up the counts for each.

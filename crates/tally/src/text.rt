@@ -1,7 +1,7 @@
 // A tally as text.
 ghost use mathlib.Core.Path.{_≡_};
 ghost use mathlib.Core.List.{[], _∷_};
-ghost use Prim.Native.Nat.{_+_, _≤_};
+ghost use Prim.Native.Nat.{_+_, _%_, _≤_};
 ghost use lib.Dec.{leb};
 ghost use lib.ListN.{length, take, drop};
 ghost use Rattle.ascii.specs.Area.{Put};
@@ -10,7 +10,6 @@ ghost use Rattle.answer.specs.Text.{numeral, field, numbersText};
 ghost use Rattle.rules.specs.Facts.{rules};
 ghost use Rattle.tally.specs.Cell.{cells};
 ghost use Rattle.tally.specs.Text.{linesText, tallyText, tallyRoom};
-use ascii::last_digit;
 
 // The bytes that a tally's text takes at most.
 const ROOM: usize = 770;
@@ -35,6 +34,13 @@ const NUMBERS: [u32; 17] = [
     561,
     562,
 ];
+
+// The last digit of a number, as it is written.
+fn last_digit(n: u32) -> u8
+    ensures { λ r. ⌜ r ≡ 48 + n % 10 ⌝ }
+{
+    (48 + n % 10) as u8
+}
 
 // A number in decimal.
 fn put_numeral(out: &mut [u8], at: usize, n: u32) -> usize

@@ -7,7 +7,6 @@ use lib.ListN.{length, take, drop}
 use lib.Seq.{length-take-le}
 use Rattle.lines.proofs.Feeding.{part-len, rest-whole, none-left, open-left}
 use Rattle.tally.proofs.Running.{running-none}
-use Rattle.stream.proofs.Small.{reply-small}
 use Rattle.stream.proofs.Windows.{Streaming, streaming-none, streaming-line, streaming-right, streaming-size, streaming-within, streaming-room, part-open}
 use Rattle.stream.proofs.window.feed.Statement.{statement}
 use Rattle.stream.proofs.window.feed.Tie as tie
@@ -37,26 +36,26 @@ returns c =
     let o = part-open s (take (length s - used) (drop used s)) used (c .before .line-len .result) refl (c .before .line-len .ensures .1) (omega (arith, c .if1 .taken, part-len s used)) in
     (streaming-right (c .before .before .before .before .loop .inv) (open-left (c .before .before .before .before .loop .room) (drop used s) o), streaming-within (c .before .before .before .before .loop .inv))
 
-slice-aggregate-count : tie.Need-slice-aggregate-count Inv-loop μ-loop
-slice-aggregate-count c = sym (length-take-le (c .before .before .before .line-len .result) _ (c .before .before .before .line-len .ensures .0))
+slice-aggregate-put-line : tie.Need-slice-aggregate-put-line Inv-loop μ-loop
+slice-aggregate-put-line c = sym (length-take-le (c .before .before .line-len .result) _ (c .before .before .line-len .ensures .0))
 
-put-answer-requires : tie.Need-put-answer-requires Inv-loop μ-loop
-put-answer-requires c κs = (streaming-room (c .before .before .before .before .before .before .before .before .loop .inv) (c .before .before .before .before .before .before .before .loop-test .taken), reply-small _ (c .before .before .before .before .before .before .before .before .loop .counts) _ (c .before .count .ensures))
+put-line-requires : tie.Need-put-line-requires Inv-loop μ-loop
+put-line-requires c κs = streaming-room (c .before .before .before .before .before .before .before .loop .inv) (c .before .before .before .before .before .before .loop-test .taken)
 
 add-used : tie.Need-add-used Inv-loop μ-loop
-add-used c = omega (arith, part-len (c .before .before .before .before .before .before .before .before .before .before .before .before .before .before .before .before .before .args .s .now) (c .before .before .before .before .before .before .before .before .before .before .before .before .loop .used), c .before .before .before .before .before .before .before .before .before .line-len .ensures .0, streaming-within (c .before .before .before .before .before .before .before .before .before .before .before .before .loop .inv))
+add-used c = omega (arith, part-len (c .before .before .before .before .before .before .before .before .before .before .before .before .before .before .before .before .args .s .now) (c .before .before .before .before .before .before .before .before .before .before .before .loop .used), c .before .before .before .before .before .before .before .before .line-len .ensures .0, streaming-within (c .before .before .before .before .before .before .before .before .before .before .before .loop .inv))
 
 add-used-2 : tie.Need-add-used-2 Inv-loop μ-loop
-add-used-2 c = omega (arith, part-len (c .before .before .before .before .before .before .before .before .before .before .before .before .before .before .before .before .before .args .s .now) (c .before .before .before .before .before .before .before .before .before .before .before .before .loop .used), c .before .before .before .before .before .before .before .before .before .line-len .ensures .0, c .before .before .before .before .before .before .before .before .if1 .left, streaming-within (c .before .before .before .before .before .before .before .before .before .before .before .before .loop .inv))
+add-used-2 c = omega (arith, part-len (c .before .before .before .before .before .before .before .before .before .before .before .before .before .before .before .before .args .s .now) (c .before .before .before .before .before .before .before .before .before .before .before .loop .used), c .before .before .before .before .before .before .before .before .line-len .ensures .0, c .before .before .before .before .before .before .before .if1 .left, streaming-within (c .before .before .before .before .before .before .before .before .before .before .before .loop .inv))
 
 loop-again : tie.Need-loop-again Inv-loop μ-loop
 loop-again c =
-    let s = c .before .before .before .before .before .before .before .before .before .before .before .before .before .before .before .before .before .args .s .now in
-    let used = c .before .before .before .before .before .before .before .before .before .before .before .before .loop .used in
-    let n = c .before .before .before .before .before .before .before .before .before .line-len .result in
+    let s = c .before .before .before .before .before .before .before .before .before .before .before .before .before .before .before .before .args .s .now in
+    let used = c .before .before .before .before .before .before .before .before .before .before .before .loop .used in
+    let n = c .before .before .before .before .before .before .before .before .line-len .result in
     let rest = take (length s - used) (drop used s) in
-    let h : n < length rest = omega (arith, part-len s used, c .before .before .before .before .before .before .before .before .before .line-len .ensures .0, c .before .before .before .before .before .before .before .before .if1 .left) in
-    streaming-line (c .before .before .before .before .before .before .before .before .before .before .before .before .loop .inv) (take n rest) (n + 1) (c .before .before .before .before .before .count .result) (omega arith) (rest-whole s rest used n refl (c .before .before .before .before .before .before .before .before .before .line-len .ensures .1) _ h) (c .before .before .before .before .before .before .before .before .before .before .before .loop-test .taken) refl (c .before .before .before .before .before .count .ensures) (c .fewer .ensures) (c .before .before .before .put-answer .ensures)
+    let h : n < length rest = omega (arith, part-len s used, c .before .before .before .before .before .before .before .before .line-len .ensures .0, c .before .before .before .before .before .before .before .if1 .left) in
+    streaming-line (c .before .before .before .before .before .before .before .before .before .before .before .loop .inv) (take n rest) (n + 1) (omega arith) (rest-whole s rest used n refl (c .before .before .before .before .before .before .before .before .line-len .ensures .1) _ h) (c .before .before .before .before .before .before .before .before .before .before .loop-test .taken) refl (c .fewer .ensures) (c .before .before .before .put-line .ensures)
 
 same-length-2 : tie.Need-same-length-2 Inv-loop μ-loop
 same-length-2 c = streaming-size (c .before .loop .inv)
@@ -78,9 +77,8 @@ feed-spec =
     (λ c κs. search needs)
     same-length
     returns
-    slice-aggregate-count
-    (λ c κs. search needs)
-    put-answer-requires
+    slice-aggregate-put-line
+    put-line-requires
     (λ c κs. search needs)
     add-used
     add-used-2

@@ -1,15 +1,12 @@
 -- `tally::counts::raise` counts one more.
-use native.Mathlib.Omega.{arith}
-use Rattle.tally.proofs.Feeding.{raised-below, raised-full}
+use Rattle.tally.specs.Inner.{raised}
 use borrow.Author.Needs.{needs}
 use Rattle.tally.proofs.counts.raise.Statement.{statement}
 use Rattle.tally.proofs.counts.raise.Tie as tie
 
 returns : tie.Need-returns
-returns c = raised-below (c .before .before .args .counts .now) (c .before .before .args .cell) (c .if1 .taken)
-
-returns-2 : tie.Need-returns-2
-returns-2 c = raised-full (c .before .before .args .counts .now) (c .before .before .args .cell) (omega (arith, c .before .slice-known .given (c .before .before .args .cell))) (c .if1 .left)
+unfolding raised
+returns c = rw (c .wrapping-add-u32 .ensures)
 
 pub raise-spec : {M : Type 1} → statement M
 raise-spec =
@@ -17,9 +14,8 @@ raise-spec =
     (tie.spec
     (λ c. search needs)
     (λ c. search needs)
+    (λ c κs. search needs)
     (λ c. search needs)
     (λ c. search needs)
     (λ c. search needs)
-    (λ c. search needs)
-    returns
-    returns-2)
+    returns)

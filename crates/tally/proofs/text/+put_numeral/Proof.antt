@@ -10,7 +10,7 @@ use borrow.Fn.PlainCycle.{Measures, is, falls, and}
 use Rattle.tally.proofs.text.put_numeral.Reads as put-numeral
 use Rattle.tally.proofs.text.put_numeral.Kinds as put-numeral-kinds
 use Rattle.tally.proofs.text.+put_numeral.Lts-put_numeral as put-numeral-lts
-use Rattle.ascii.proofs.last_digit.Reads as last-digit-reads
+use Rattle.tally.proofs.text.last_digit.Reads as last-digit-reads
 use Rattle.tally.proofs.text.+put_numeral.{statement}
 use Rattle.tally.proofs.text.+put_numeral.Tie.{close}
 
