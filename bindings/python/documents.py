@@ -36,7 +36,7 @@ def table(text: str) -> str:
 
 def synopsis(command: Command) -> str:
     options = ["[--term TERM]" if option == "--term" else f"[{option}]" for option in command.options]
-    takes = ["[FILE]" if name == "FILE" else name for name in command.takes]
+    takes = [f"[{name}]" if name.startswith("FILE") else name for name in command.takes]
     return " ".join([command.name, *options, *takes])
 
 
@@ -81,6 +81,7 @@ def completion() -> str:
     schemes = [rule.scheme for rule in partyid.RULES if rule.scheme]
     listed = [rule.scheme for rule in partyid.RULES if rule.listed]
     names = [command.name for command in COMMANDS]
+    of_files = [command.name for command in COMMANDS if any(name.startswith("FILE") for name in command.takes)]
     options = "".join(arm(command.name, [*command.options, "--help"]) for command in COMMANDS)
     return f"""\
 # bash completion for partyid. Written by documents.py from the commands of partyid --help.
@@ -98,7 +99,7 @@ _partyid() {{
 {arm("check", schemes)}{arm("list | complete", listed)}{arm("gln", ["0088"])}        esac
     fi
     mapfile -t COMPREPLY < <(compgen -W "$words" -- "$word")
-    if [[ $command == lines && $word != -* && $COMP_CWORD -gt 1 ]]; then
+    if [[ $command =~ ^({"|".join(of_files)})$ && $word != -* && $COMP_CWORD -gt 1 ]]; then
         mapfile -t COMPREPLY < <(compgen -f -- "$word")
         compopt -o filenames 2>/dev/null
     fi

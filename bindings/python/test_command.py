@@ -88,7 +88,8 @@ class Commands(unittest.TestCase):
 
     def test_what_is_not_understood_is_status_2(self) -> None:
         for line in ("", "frob", "check 0088", "check 0088 17 17", "check 0088 17 --term", "iban AA750 --term 34", "check 0088 17 --term x", "check 0088 --trem",
-                     "check 0088 17 --corr", "lines nosuchfile", "lines .", "-- -", "check 0088 17 -- 17"):
+                     "check 0088 17 --corr", "lines nosuchfile", "lines .", "lines a b", "tally nosuchfile", "tally .", "tally --corrections", "-- -",
+                     "check 0088 17 -- 17"):
             words = line.split()
             said = within(*words)
             self.assertEqual((said.status, said.out), (2, ""), words)
@@ -131,14 +132,14 @@ class Help(unittest.TestCase):
             self.assertTrue(said.out.startswith(f"usage: partyid {command.name} "), said.out)
             self.assertIn("That says nothing about whether a party of that number\nexists", said.out)
             for word in (*command.takes, *command.options):
-                self.assertIn(f"  {word}", said.out)
+                self.assertIn(f"  {word.split()[0]} ", said.out)
 
 
 class Statuses(unittest.TestCase):
     """0 to 3, whatever happens; a status of the interpreter's would say something that is not so."""
 
     def test_a_full_device(self) -> None:
-        for command in ("check 0088 17", "--help", "lines ../../examples/lines.txt --corrections"):
+        for command in ("check 0088 17", "--help", "lines ../../examples/lines.txt --corrections", "tally ../../examples/lines.txt"):
             for unbuffered in ("", "-u"):
                 said = shell(f"{sys.executable} {unbuffered} -m partyid {command} >/dev/full")
                 self.assertEqual(said, Run(2, "", "partyid: [Errno 28] No space left on device\n"), command)
@@ -147,7 +148,8 @@ class Statuses(unittest.TestCase):
         run = f"{sys.executable} -m partyid"
         self.assertEqual(shell(f"{run} check 0088 17 >&-"), Run(2, "", "partyid: standard output is closed\n"))
         self.assertEqual(shell(f"{run} --help >&-"), Run(2, "", "partyid: standard output is closed\n"))
-        self.assertEqual(shell(f"{run} lines <&-"), Run(2, "", "partyid: standard input is closed; name a FILE\n"))
+        for command in ("lines", "tally"):
+            self.assertEqual(shell(f"{run} {command} <&-"), Run(2, "", "partyid: standard input is closed; name a FILE\n"))
         self.assertEqual(shell(f"{run} check 0088 71 2>&-"), Run(1, REFUSED, ""))
         self.assertEqual(shell(f"{run} frob 2>&-"), Run(2, "", ""))
         self.assertEqual(shell(f"{run} frob 2>/dev/full"), Run(2, "", ""))

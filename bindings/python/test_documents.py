@@ -101,6 +101,7 @@ class Completion(unittest.TestCase):
         self.assertEqual(self.completed("check", "0088", "17", "--"), ["--term", "--corrections", "--help"])
         self.assertEqual(self.completed("check", "0088", "17", "--term", "4"), ["46", "47", "48", "49"])
         self.assertEqual(self.completed("lines", "READ"), ["README.md"])
+        self.assertEqual(self.completed("tally", "lines.txt", "READ"), ["README.md"])
         self.assertEqual(self.completed("lines", "--c"), ["--corrections"])
         self.assertEqual(self.completed("iban", ""), [])
 

@@ -144,11 +144,6 @@ class Contents(unittest.TestCase):
             alone = [partyid.answer_line(line) for line in lines]
             self.assertEqual(list(partyid.answer_lines(b"\n".join(lines) + b"\n")), alone, count)
 
-    def test_the_line_programs_own_lines_have_its_answers(self) -> None:
-        program = ROOT / "crates" / "checklines"
-        written = [b"%d %d %d %d" % answer for answer in partyid.answer_lines((program / "stdin").read_bytes())]
-        self.assertEqual(written, (program / "stdout").read_bytes().splitlines())
-
     def test_an_answer_is_told_in_words(self) -> None:
         refused = "refused by rule 40 (severity fatal): the form is met and the check figure is wrong"
         self.assertEqual(str(partyid.check("0088", 34, "71")), refused)
@@ -246,8 +241,8 @@ class Library(unittest.TestCase):
             library.answered(library.AnswerStruct(4, 0, 0, 0))
         with self.assertRaisesRegex(ValueError, "^3 is not a valid .*Severity"):
             library.answered(library.AnswerStruct(0, 0, 3, 0))
-        with self.assertRaisesRegex(partyid.Disagreement, "^12 is not a valid .*Reason"):
-            library.settle(12)
+        with self.assertRaisesRegex(partyid.Disagreement, "^13 is not a valid .*Reason"):
+            library.settle(13)
 
 
 # ---- The names

@@ -17,6 +17,11 @@ A number that passes says nothing about whether the party exists: a check figure
     '9'
     >>> [line.number for line in partyid.check_lines(["0088 34 71", "0088 34 17"]) if line.answer.refused]
     [1]
+    >>> tally = partyid.Tally()
+    >>> [answer.accepted for answer in tally.feed_lines("0088 34 71\\n0088 34 17\\n")]
+    [False, True]
+    >>> tally.count(40, partyid.Verdict.REFUSED), tally.total
+    (1, 2)
 
 The library is the file that the environment variable PARTYID_LIBRARY names, else the one in this package's folder, else target/c/libpartyid.so
 of the repository that it stands in, else the system's. On the command line: partyid --help, or python3 -m partyid --help.
@@ -30,10 +35,11 @@ __version__ = "0.1.0"
 
 from .answers import Answer, Code, Point, Reason, Refusal, Severity, Verdict, Withdrawal
 from .checks import check, eas_value, is_valid_creditor_identifier, is_valid_iban_checksum, withdrawn
-from .library import ANSWER_NUMBERS, AREA, LIST_DIGITS, Content, Disagreement, LibraryError
+from .library import ANSWER_NUMBERS, AREA, LIST_DIGITS, TALLY_COUNTS, Content, Disagreement, LibraryError
 from .lines import Line, answer_line, answer_lines, answer_numbers, check_lines
 from .listing import complete, corrections
 from .tables import RULES, TERMS, Rule, Term
+from .tally import Tally
 from .text import decode, is_white, normalize_space, strip
 
 __all__ = [
@@ -52,7 +58,9 @@ __all__ = [
     "Refusal",
     "Rule",
     "Severity",
+    "TALLY_COUNTS",
     "TERMS",
+    "Tally",
     "Term",
     "Verdict",
     "Withdrawal",

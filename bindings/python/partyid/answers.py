@@ -56,6 +56,7 @@ class Reason(Numbered):
     GOOD = 9, "the number is accepted, so there is nothing to correct"
     TERM = 10, "the term number is none that a rule reads"
     LINE = 11, "the head of the line is malformed"
+    FULL = 12, "the tally is full"
 
 
 class Withdrawal(Numbered):

@@ -49,6 +49,8 @@ def _add_arguments(sub: argparse.ArgumentParser, command: Command) -> None:
     for name in command.takes:
         if name == "FILE":
             sub.add_argument("file", metavar=name, type=_argument, nargs="?", default=b"-", help=ARGUMENTS[name])
+        elif name == "FILE ...":
+            sub.add_argument("file", metavar="FILE", type=_argument, nargs="*", default=[b"-"], help=ARGUMENTS[name])
         else:
             sub.add_argument(name.lower(), metavar=name, type=_argument, help=ARGUMENTS[name])
     if "--term" in command.options:

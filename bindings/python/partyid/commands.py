@@ -8,13 +8,14 @@ import sys
 from argparse import Namespace
 from typing import Callable, ContextManager, Iterable, NamedTuple
 
-from . import reports
+from . import reports, tally_table
 from .answers import Answer, Refusal, Verdict
 from .checks import check, eas_value, is_valid_creditor_identifier, is_valid_iban_checksum, withdrawn
 from .explain import refusal_told, told
 from .lines import Readable
 from .listing import complete, corrections
-from .manual import IBAN_IS, LINE_IS, LINES_ARE, SCHEME_IS, recipes_told, schemes_told, terms_told
+from .manual import IBAN_IS, LINE_IS, LINES_ARE, SCHEME_IS, TALLY_IS, recipes_told, schemes_told, terms_told
+from .tally import Tally
 
 DONE, REFUSED, FAILED, NOT_JUDGED = 0, 1, 2, 3
 _STATUS = {Verdict.ACCEPTED: DONE, Verdict.REFUSED: REFUSED, Verdict.NO_RULE: NOT_JUDGED, Verdict.UNREAD: NOT_JUDGED}
@@ -93,6 +94,15 @@ def _lines(given: Namespace) -> int:
         return status_of(report(file))
 
 
+def _tally(given: Namespace) -> int:
+    tally, uncounted = Tally(), 0
+    for name in given.file:
+        with _opened(name) as file:
+            uncounted += tally_table.feed_file(tally, file)
+    sys.stdout.write(tally_table.told(tally, uncounted))
+    return REFUSED if uncounted else DONE
+
+
 def _opened(name: bytes) -> ContextManager[Readable]:
     if name != b"-":
         return open(os.fsdecode(name), "rb")
@@ -109,6 +119,7 @@ ARGUMENTS = {
     "BODY": "the number without its check figure",
     "CODE": "a scheme code, as 9901",
     "FILE": "a file of lines; - or none is standard input",
+    "FILE ...": "files of lines; - or none is standard input",
 }
 
 OPTIONS = {
@@ -138,6 +149,7 @@ COMMANDS = (
     Command("list", _list, ("SCHEME", "CONTENT"), "list the numbers that a slip of the hand could have made this one from", _LISTING, (SCHEME_IS,)),
     Command("complete", _complete, ("SCHEME", "BODY"), "say the check figure that completes a body of digits", _COMPLETING, (SCHEME_IS,)),
     Command("lines", _lines, ("FILE",), "check each line of a file, or of standard input", LINES_ARE, (LINE_IS, IBAN_IS, recipes_told()), ("--corrections",)),
+    Command("tally", _tally, ("FILE ...",), "count the lines of files by rule and verdict", TALLY_IS, (LINE_IS,)),
     Command("iban", _iban, ("CONTENT",), "check an IBAN", _IBAN),
     Command("creditor", _creditor, ("CONTENT",), "check the form of a SEPA creditor identifier", _CREDITOR),
     Command("gln", _gln, ("SCHEME", "CONTENT"), "check a GLN strictly: scheme 0088 and 13 digits", _GLN),

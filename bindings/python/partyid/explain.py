@@ -10,6 +10,7 @@ from .library import answer_of
 from .listing import corrections
 from .tables import LINE_FORM, LISTED, TERM_FORM, Rule, rule_of
 
+LOOK_UP = "A number that a rule accepts need not be any party's: look it up before you take it."
 _SHOWN = 100
 _NO_RULE = answer_of(0, 0, 0, 0)
 

@@ -18,6 +18,7 @@ Some = TypeVar("Some", bound=Numbered)
 AREA = 1024
 LIST_DIGITS = 20
 ANSWER_NUMBERS = 4
+TALLY_COUNTS = 53
 MOST_U32 = 2**32 - 1
 MOST_SIZE = 2 ** (8 * ctypes.sizeof(ctypes.c_size_t)) - 1
 
@@ -62,6 +63,8 @@ FUNCTIONS: dict[str, tuple[Any, tuple[Any, ...]]] = {
     "partyid_list": (DoneStruct, (*READ, *READ, BYTES, ctypes.c_size_t)),
     "partyid_answer_line": (AnswerStruct, READ),
     "partyid_answer_lines": (BatchStruct, (*READ, NUMBERS, ctypes.c_size_t)),
+    "partyid_tally_line": (AnswerStruct, (*READ, NUMBERS)),
+    "partyid_tally_lines": (BatchStruct, (*READ, NUMBERS, NUMBERS, ctypes.c_size_t)),
     "partyid_decode": (PointStruct, (*READ, ctypes.c_size_t)),
     "partyid_is_white": (ctypes.c_bool, (ctypes.c_uint32,)),
     "partyid_normalize_space": (TextStruct, (*READ, BYTES)),
@@ -118,14 +121,18 @@ def as_bytes(content: Content) -> bytes:
         raise TypeError(f"a scheme or a content is given as bytes or str, not as {type(content).__name__}") from None
 
 
+def whole(number: SupportsIndex, what: str) -> int:
+    try:
+        return operator.index(number)
+    except TypeError:
+        raise TypeError(f"{what} is given as a whole number (int), not as {number!r}") from None
+
+
 def within(number: SupportsIndex, most: int, what: str) -> int:
     """A number that C can hold. ctypes would cut off the rest of one that it can't, and 2**32 + 34 would pass for 34; the most stands
     for it instead, which is no term, no white point and past the end of every content."""
-    try:
-        whole = operator.index(number)
-    except TypeError:
-        raise TypeError(f"{what} is given as a whole number (int), not as {number!r}") from None
-    return whole if 0 <= whole <= most else most
+    given = whole(number, what)
+    return given if 0 <= given <= most else most
 
 
 # ---- What comes back

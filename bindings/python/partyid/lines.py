@@ -5,7 +5,7 @@ from __future__ import annotations
 import ctypes
 from array import array
 from itertools import islice, starmap
-from typing import Iterable, Iterator, NamedTuple, Protocol, Union
+from typing import Iterable, Iterator, NamedTuple, Optional, Protocol, Union
 
 from .answers import Answer
 from .library import ANSWER_NUMBERS, NUMBERS, Content, Disagreement, answer_of, answered, as_bytes, library
@@ -30,6 +30,10 @@ class Readable(Protocol):
         ...
 
 
+Source = Union[Content, Readable]
+Counts = ctypes.Array[ctypes.c_uint32]
+
+
 def answer_line(line: Content) -> Answer:
     """The answer to one line, without its newline: 4 scheme bytes, space, two digits of term, space, content."""
     c = as_bytes(line)
@@ -41,17 +45,10 @@ def answer_lines(data: Content) -> Iterator[Answer]:
     return rows_of(numbers_of(as_bytes(data)))
 
 
-def answer_numbers(source: Union[Content, Readable]) -> "array[int]":
+def answer_numbers(source: Source) -> "array[int]":
     """The answers to the lines of a text, or of a file opened for bytes, as numbers alone: verdict, rule, severity and reason of the first line,
     then of the second. No object is made for a line. numbers[0::4] are the verdicts; numbers[0::4].count(Verdict.REFUSED) counts."""
-    if isinstance(source, _TEXT):
-        return numbers_of(as_bytes(source))
-    if not hasattr(source, "read"):
-        raise TypeError(f"answer_numbers takes bytes, a str or a file opened for bytes, not {type(source).__name__}")
-    numbers = array("I")
-    for block in blocks(source):
-        numbers.extend(numbers_of(block))
-    return numbers
+    return numbers_in(source, "answer_numbers")
 
 
 def check_lines(lines: Iterable[Content], at_once: int = _LINES_AT_ONCE) -> Iterator[Line]:
@@ -117,12 +114,27 @@ def _answers(lines: list[bytes]) -> Iterator[Answer]:
     return rows_of(numbers_of(text))
 
 
-def numbers_of(text: bytes) -> "array[int]":
+def numbers_in(source: Source, taker: str, counts: Optional[Counts] = None) -> "array[int]":
+    """The answers to the lines of a text or of a file; where counts are given, each line is counted in them."""
+    if isinstance(source, _TEXT):
+        return numbers_of(as_bytes(source), counts)
+    if not hasattr(source, "read"):
+        raise TypeError(f"{taker} takes bytes, a str or a file opened for bytes, not {type(source).__name__}")
+    numbers = array("I")
+    for block in blocks(source):
+        numbers.extend(numbers_of(block, counts))
+    return numbers
+
+
+def numbers_of(text: bytes, counts: Optional[Counts] = None) -> "array[int]":
     """One call for all lines of a text."""
     count = text.count(b"\n") + (not text.endswith(b"\n") and bool(text))
     numbers = array("I", bytes(count * ANSWER_NUMBERS * array("I").itemsize))
     area = ctypes.cast(numbers.buffer_info()[0], NUMBERS)
-    batch = library().partyid_answer_lines(text, len(text), area, len(numbers))
+    if counts is None:
+        batch = library().partyid_answer_lines(text, len(text), area, len(numbers))
+    else:
+        batch = library().partyid_tally_lines(text, len(text), counts, area, len(numbers))
     if (batch.count, batch.used) != (count, len(text)):
         raise Disagreement(f"{batch.count} answers to {count} lines")
     return numbers

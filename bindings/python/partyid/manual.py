@@ -49,6 +49,10 @@ An answer is written for each line. With --corrections only what is wrong is wri
 asks for and every correction; each line whose scheme is withdrawn and has no rule; and last what about the file (a byte order mark, CRLF, tabs, UTF-16,
 commas, a header) is why lines are refused. The file is read as it comes."""
 
+TALLY_IS = """\
+A table is written with a row for each rule: how many lines it accepted, refused and let through unread, and their sum. Below it stand the lines that have
+no rule, and how many lines there are. The lines of several files are counted together. Where one of them can't be read, no table is written."""
+
 ANSWER_IS = "An answer is a line of four numbers, verdict, rule, severity and reason, and their meaning in words:"
 EXAMPLE = """\
   $ partyid check 0088 71
@@ -63,8 +67,8 @@ LIBRARY_IS = """\
 the file of libpartyid; else the one in the package's folder, else target/c/libpartyid.so of the repository around it, else the system's"""
 
 STATUS = """\
-  0  accepted by the rule, or the work is done; of a file: every line is accepted
-  1  refused; of a file: at least one line is
+  0  accepted by the rule, or the work is done; of a file: every line is accepted; of a tally: every line is counted
+  1  refused; of a file: at least one line is; of a tally: it is full, after 4,294,967,295 lines
   2  the command was not understood, or something could not be read or written, or it was interrupted
   3  not judged: no rule reads such a field, or the rule lets it through unread; of a file: no line is refused, and at
      least one is not judged. It is not 0, because a slip in the scheme would then look like an accepted number."""
@@ -79,6 +83,7 @@ RECIPES = (
     Recipe("What is wrong with each line, and every correction", "partyid lines lines.txt --corrections"),
     Recipe("Answers beside their lines", "partyid lines lines.txt | paste - lines.txt"),
     Recipe("Only the refused lines, with their numbers", "partyid lines lines.txt | paste - lines.txt | grep -n '^2 '"),
+    Recipe("How many lines each rule accepted and refused", "partyid tally lines.txt"),
     Recipe("The second column of a CSV file that has no quotes, as GLNs", "tail -n +2 plain.csv | cut -d, -f2 | sed 's/^/0088 34 /' | partyid lines"),
     Recipe(
         "A column of any CSV file by its name",

@@ -7,7 +7,7 @@ from array import array
 from typing import Iterator
 
 from .answers import Answer, Verdict
-from .explain import no_rule, refusal_told, shown, told
+from .explain import LOOK_UP, no_rule, refusal_told, shown, told
 from .library import ANSWER_NUMBERS, answer_of
 from .lines import Readable, blocks, lines_of, numbers_of
 from .shape import Shapes
@@ -86,5 +86,5 @@ def _whole_told(counts: dict[Verdict, int], shapes: Shapes) -> str:
     refused = counts[Verdict.REFUSED]
     judged = f"lines: {sum(counts.values())}; accepted: {counts[Verdict.ACCEPTED]}; refused: {refused}"
     unjudged = f"; without a rule: {counts[Verdict.NO_RULE]}; let through unread: {counts[Verdict.UNREAD]}"
-    caution = ["A number that a rule accepts need not be any party's: look it up before you take it."] if refused else []
+    caution = [LOOK_UP] if refused else []
     return "\n".join([judged + unjudged, *shapes.told(refused), *caution]) + "\n"
