@@ -62,7 +62,7 @@ $(PROGRAM): $(SOURCES) $(call sources_of,crates/checklines) $(MACHINE) machine/p
 	@echo 'proving the line program ..'
 	@machine/program checklines >$(OUT)/program.log 2>&1 || { cat $(OUT)/program.log >&2; exit 1; }
 
-# The version and the words, the one part of the library that is not proved. It decides nothing.
+# The version, the words and the reading of a tally, the one part of the library that is not proved. It decides nothing.
 $(OUT)/words.o: c/words.c include/partyid.h
 	@mkdir -p $(OUT)
 	$(CC) -std=c11 -O2 -Wall -Wextra -Wpedantic -fPIC -Iinclude $(CFLAGS) -c -o $@ $<

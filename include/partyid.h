@@ -49,6 +49,10 @@ extern "C" {
 /* The numbers of an answer that partyid_answer_lines writes for each line. */
 #define PARTYID_ANSWER_NUMBERS 4
 
+/* The counts of a tally, and the most lines that they count together. */
+#define PARTYID_TALLY_COUNTS 53
+#define PARTYID_TALLY_LIMIT 4294967295
+
 enum partyid_verdict {
     PARTYID_VERDICT_NO_RULE = 0,  /* no rule reads such a field */
     PARTYID_VERDICT_ACCEPTED = 1, /* the rule accepts the content */
@@ -74,7 +78,8 @@ enum partyid_reason {
     PARTYID_REASON_ROOM = 8,      /* the output area is too short */
     PARTYID_REASON_GOOD = 9,      /* the number is accepted: there is nothing to correct */
     PARTYID_REASON_TERM = 10,     /* the term number is none that a rule reads */
-    PARTYID_REASON_LINE = 11      /* a line whose head is malformed */
+    PARTYID_REASON_LINE = 11,     /* a line whose head is malformed */
+    PARTYID_REASON_FULL = 12      /* the tally can count no further line */
 };
 
 /* Whether a scheme code is withdrawn. */
@@ -168,6 +173,27 @@ static inline struct partyid_batch partyid_check_lines(const void *text, size_t 
     return partyid_answer_lines(text, text_len, out_len == 0 ? NULL : &out->verdict, out_len * PARTYID_ANSWER_NUMBERS);
 }
 
+/* ---- A tally: lines answered, and counted by rule and verdict
+
+   Its counts are exactly PARTYID_TALLY_COUNTS numbers that the caller lends, and that must not be null. First come the rules in the order of their
+   numbers (40 to 47, 49, 50, 52 to 55, 57, 561, 562) with three counts each: accepted, refused, let through unread. Then the lines that no rule
+   reads, and last those refused before a rule is chosen (TERM, LINE). A fresh tally is zeros: uint32_t counts[PARTYID_TALLY_COUNTS] = {0}. */
+
+/* The answer to one line, as partyid_answer_line gives it, and its count goes up by one. Where the counts already add up to PARTYID_TALLY_LIMIT
+   or more, the line is refused (FULL) and no count changes. */
+struct partyid_answer partyid_tally_line(const void *line, size_t line_len, uint32_t *counts);
+
+/* The answers to the lines of a text, as partyid_answer_lines gives them, with each line counted as above. A line that is not answered is not
+   counted, so that a call with the rest of the text goes on where this one ends. */
+struct partyid_batch partyid_tally_lines(const void *text, size_t text_len, uint32_t *counts, uint32_t *out, size_t out_len);
+
+/* The same into an array of answers: out_len is how many it has room for. */
+static inline struct partyid_batch partyid_tally_check_lines(const void *text, size_t text_len, uint32_t *counts, struct partyid_answer *out,
+                                                             size_t out_len)
+{
+    return partyid_tally_lines(text, text_len, counts, out_len == 0 ? NULL : &out->verdict, out_len * PARTYID_ANSWER_NUMBERS);
+}
+
 /* ---- Text */
 
 /* The code point that begins at a byte of a content, by RFC 3629; refused past the end. */
@@ -183,7 +209,7 @@ struct partyid_text partyid_normalize_space(const void *content, size_t content_
 /* Every white point removed; the area as above. */
 struct partyid_text partyid_strip(const void *content, size_t content_len, void *area);
 
-/* ---- Words. These decide nothing, and are not proved. A number that stands for nothing is "unknown". */
+/* ---- Words, and a tally read. These decide nothing, and are not proved. A number that stands for nothing is "unknown". */
 
 /* The version of the library that is linked, as PARTYID_VERSION. */
 const char *partyid_version(void);
@@ -191,6 +217,9 @@ const char *partyid_version(void);
 const char *partyid_verdict_words(uint32_t verdict);
 const char *partyid_severity_words(uint32_t severity);
 const char *partyid_reason_words(uint32_t reason);
+
+/* The count of a rule's number and a verdict in a tally. Rule 0 has two: verdict 0, and verdict 2. A pair that has no count gives 0. */
+uint32_t partyid_tally_count(const uint32_t *counts, uint32_t rule, uint32_t verdict);
 
 #ifdef __cplusplus
 }

@@ -23,6 +23,7 @@ from agreement.header import read_header, without_comments
 from agreement.interface import Interface, Unreadable, differing, disagreements
 from agreement.python_binding import python_disagreements
 from agreement.rust_binding import rust_disagreements
+from agreement.tally import library_tally_disagreements, rust_tally_disagreements
 from agreement.words import library_words, python_words, rust_words, version_disagreements, version_of_crate, words_disagreements
 
 ROOT = pathlib.Path(__file__).resolve().parent.parent
@@ -68,6 +69,8 @@ def compare(header: pathlib.Path, built: pathlib.Path) -> list[str]:
         "libraries": told(lambda: library_disagreements(wanted, built)),
         "bindings/rust": told(lambda: rust_disagreements(RUST, wanted, numbered)),
         "bindings/python": told(lambda: python_disagreements(PYTHON, wanted, numbered)),
+        "partyid_tally_count": told(lambda: library_tally_disagreements(CRATES, built)),
+        "bindings/rust/src/tally.rs": told(lambda: rust_tally_disagreements(CRATES, RUST)),
         "libpartyid.so beside bindings/rust": told(lambda: words_disagreements(rust_words(RUST), library_words(built, numbered))),
         "bindings/python beside bindings/rust": told(lambda: words_disagreements(rust_words(RUST), python_words(PYTHON))),
         "version": told(lambda: version_disagreements(ROOT, built, version)),
@@ -88,14 +91,14 @@ def first_difference(source: str, altered: str) -> str:
 
 
 def agrees_as_library(source: str, folder: pathlib.Path) -> bool:
-    """Whether a library of other words, alone in a folder, has the words and the version of the others."""
+    """Whether a library of other words, alone in a folder, has the words and the version of the others, and counts a tally by the definitions."""
     folder.mkdir()
     (folder / "words.c").write_text(source)
     shutil.copy(BUILT / "partyid.pc", folder)
     command = ["cc", "-w", "-shared", "-fPIC", f"-I{HEADER.parent}", "-o", str(folder / "libpartyid.so"), str(folder / "words.c")]
     subprocess.run(command, check=True)
     words = told(lambda: words_disagreements(rust_words(RUST), library_words(folder, cases(CRATES))))
-    return not words and not version_disagreements(ROOT, folder, version_of_crate(ROOT))
+    return not (words or library_tally_disagreements(CRATES, folder) or version_disagreements(ROOT, folder, version_of_crate(ROOT)))
 
 
 def self_test_of_words() -> tuple[int, list[str]]:

@@ -12,6 +12,7 @@ OTHER_TYPE = {
     "const void *": "void *",
     "void *": "const void *",
     "uint32_t *": "uint64_t *",
+    "const uint32_t *": "uint32_t *",
     "struct partyid_answer *": "struct partyid_done *",
     "uint8_t": "uint16_t",
 }
@@ -95,19 +96,42 @@ def strangers(text: str) -> Iterator[str]:
 
 
 WORDS = re.compile(r"(?<=\] = )\"[^\"]*\"")
+RULES = re.compile(r"(?<=rules\[\] = )\{[^}]*\}")
+
+# each a place in the source of the words, and what it is altered to
+OTHERWISE = {
+    '"unknown"': '"no reason"',
+    "number < count": "number < count - 1",
+    "return PARTYID_VERSION;": 'return "0.0.0";',
+    "VERDICTS = 3": "VERDICTS = 2",
+    "return counts[NO_RULE];": "return counts[REFUSED_WITHOUT_RULE];",
+    "return counts[REFUSED_WITHOUT_RULE];": "return counts[NO_RULE];",
+    "        return 0;": "        return counts[NO_RULE];",
+    "verdict <= PARTYID_VERDICT_UNREAD": "verdict <= PARTYID_VERDICT_UNREAD + 1",
+    "    return 0;\n}": "    return counts[0];\n}",
+}
+
+
+def exchanged(source: str, found: list[re.Match[str]]) -> Iterator[str]:
+    """Each exchanged with the next."""
+    for one, next_one in zip(found, found[1:]):
+        yield source[: one.start()] + next_one[0] + source[one.end() : next_one.start()] + one[0] + source[next_one.end() :]
 
 
 def altered_words(source: str) -> Iterator[str]:
-    """Each word another one, left out, and exchanged with the next; numbers that stand for nothing called something else; another version."""
+    """Each word another one, left out, and exchanged with the next; each rule of a tally another one, and exchanged; and what is told above."""
     found = list(WORDS.finditer(source))
     for match in found:
         yield source[: match.start()] + '"other words"' + source[match.end() :]
         yield source[: match.start()] + "0" + source[match.end() :]
-    for one, next_one in zip(found, found[1:]):
-        yield source[: one.start()] + next_one[0] + source[one.end() : next_one.start()] + one[0] + source[next_one.end() :]
-    yield source.replace('"unknown"', '"no reason"')
-    yield source.replace("number < count", "number < count - 1")
-    yield source.replace("return PARTYID_VERSION;", 'return "0.0.0";')
+    yield from exchanged(source, found)
+    table = RULES.search(source)
+    rules = list(re.compile(r"\d+").finditer(source, *table.span())) if table else []
+    for match in rules:
+        yield source[: match.start()] + str(int(match[0]) + 100) + source[match.end() :]
+    yield from exchanged(source, rules)
+    for place, other in OTHERWISE.items():
+        yield source.replace(place, other, 1)
 
 
 def altered_headers(source: str) -> Iterator[str]:

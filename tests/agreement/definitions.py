@@ -86,6 +86,8 @@ def constants(crates: pathlib.Path, structs: dict[str, list[Typed]]) -> dict[str
         "PARTYID_LIST_DIGITS": most_digits(crates),
         "PARTYID_LIST_ROOM(n)": room[1],
         "PARTYID_ANSWER_NUMBERS": answer_numbers(crates, structs),
+        "PARTYID_TALLY_COUNTS": number_in(crates, "tally/specs/Cell.antt", r"^cells = (\d+)$"),
+        "PARTYID_TALLY_LIMIT": number_in(crates, "tally/specs/Tally.antt", r"^limit = (\d+)$"),
     }
 
 
@@ -120,13 +122,16 @@ def struct_fields(name: str, body: str) -> list[Typed]:
     return fields
 
 
-def parameter(name: str, kind: str, area_bytes: str) -> list[Typed]:
+def lent_arrays(numbers: dict[str, str]) -> dict[str, str]:
+    """An area for a text, and the counts of a tally."""
+    return {f"&mut [u8; {numbers['PARTYID_AREA']}]": "void *", f"&mut [u32; {numbers['PARTYID_TALLY_COUNTS']}]": "uint32_t *"}
+
+
+def parameter(name: str, kind: str, arrays: dict[str, str]) -> list[Typed]:
     """A slice is a pointer and a length; an array lent is a pointer alone."""
     if kind in SLICES:
         return [(SLICES[kind], name), ("size_t", f"{name}_len")]
-    if kind == f"&mut [u8; {area_bytes}]":
-        return [("void *", name)]
-    return [(scalar(kind), name)]
+    return [(arrays[kind] if kind in arrays else scalar(kind), name)]
 
 
 def result(kind: str, structs: dict[str, list[Typed]]) -> str:
@@ -144,10 +149,10 @@ def read_structs(text: str) -> dict[str, list[Typed]]:
     return found
 
 
-def read_functions(text: str, structs: dict[str, list[Typed]], area_bytes: str) -> dict[str, Function]:
+def read_functions(text: str, structs: dict[str, list[Typed]], arrays: dict[str, str]) -> dict[str, Function]:
     found = {}
     for name, parameters, kind in FUNCTION.findall(text):
-        typed = [pair for p in split_fields(parameters) for pair in parameter(*p, area_bytes)]
+        typed = [pair for p in split_fields(parameters) for pair in parameter(*p, arrays)]
         found[name] = Function(result(kind, structs), typed)
     if len(found) != text.count("#[no_mangle]"):
         raise Unreadable(f"{text.count('#[no_mangle]')} functions are marked #[no_mangle] and {len(found)} could be read")
@@ -158,17 +163,23 @@ def read_functions(text: str, structs: dict[str, list[Typed]], area_bytes: str) 
 
 
 def word_functions(enums: list[str]) -> dict[str, Function]:
-    """The version, and the words for the numbers of each enum of an answer."""
+    """The version, the words for the numbers of each enum of an answer, and a tally's count."""
     words = {f"partyid_{enum}_words": Function("const char *", [("uint32_t", enum)]) for enum in enums}
-    return {"partyid_version": Function("const char *", []), **words}
+    count = Function("uint32_t", [("const uint32_t *", "counts"), ("uint32_t", "rule"), ("uint32_t", "verdict")])
+    return {"partyid_version": Function("const char *", []), **words, "partyid_tally_count": count}
 
 
-# the proved call for many lines, with an array of answers in the place of numbers
+def by_answers(call: str, *counts: Typed) -> tuple[Function, str]:
+    """A proved call for many lines, with an array of answers in the place of numbers."""
+    taken = [("const void *", "text"), ("size_t", "text_len"), *counts]
+    names = ", ".join(name for _, name in taken)
+    returned = f"{call}({names}, out_len == 0 ? NULL : &out->verdict, out_len * PARTYID_ANSWER_NUMBERS)"
+    return Function("struct partyid_batch", [*taken, ("struct partyid_answer *", "out"), ("size_t", "out_len")]), returned
+
+
 INLINES = {
-    "partyid_check_lines": (
-        Function("struct partyid_batch", [("const void *", "text"), ("size_t", "text_len"), ("struct partyid_answer *", "out"), ("size_t", "out_len")]),
-        "partyid_answer_lines(text, text_len, out_len == 0 ? NULL : &out->verdict, out_len * PARTYID_ANSWER_NUMBERS)",
-    )
+    "partyid_check_lines": by_answers("partyid_answer_lines"),
+    "partyid_tally_check_lines": by_answers("partyid_tally_lines", ("uint32_t *", "counts")),
 }
 
 
@@ -180,14 +191,15 @@ def version_constants(version: str) -> dict[str, str]:
 def read_definitions(crates: pathlib.Path, version: str) -> Interface:
     text = "".join(path.read_text() for path in sorted((crates / "partyid/src").glob("*.rt")))
     structs = read_structs(re.sub(r"//.*", "", text))
+    numbers = constants(crates, structs)
     return Interface(
         enums={
             f"partyid_{enum}": [(f"PARTYID_{enum.upper()}_{upper_snake(case)}", number) for case, number in numbered]
             for enum, numbered in cases(crates).items()
         },
         structs=structs,
-        functions=read_functions(re.sub(r"//.*", "", text), structs, area(crates)),
+        functions=read_functions(re.sub(r"//.*", "", text), structs, lent_arrays(numbers)),
         words=word_functions(WORDED),
         inlines=INLINES,
-        constants={**version_constants(version), **constants(crates, structs)},
+        constants={**version_constants(version), **numbers},
     )

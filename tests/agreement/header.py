@@ -7,10 +7,13 @@ from .interface import Function, Interface, Typed, Unreadable
 
 ENUM = re.compile(r"enum (partyid_\w+) \{([^}]*)\};")
 STRUCT = re.compile(r"struct (partyid_\w+) \{([^}]*)\};")
-FUNCTION = re.compile(r"((?:struct partyid_\w+|bool) |const char \*)(partyid_\w+)\(([^)]*)\);")
+FUNCTION = re.compile(r"((?:struct partyid_\w+|bool|uint32_t) |const char \*)(partyid_\w+)\(([^)]*)\);")
 INLINE = re.compile(r"static inline (struct partyid_\w+ )(partyid_\w+)\(([^)]*)\)\n\{\n    return ([^;]*);\n\}")
 CONSTANT = re.compile(r"^#define (PARTYID_\w+(?:\(n\))?) (.+)$", re.M)
 DECLARATIONS = (ENUM, STRUCT, INLINE, FUNCTION, CONSTANT)
+
+# what the functions give that decide nothing: words, and a count
+UNPROVED = ("const char *", "uint32_t")
 
 # a cast that both languages take without a warning, which a constant may use
 SIZE = """#ifdef __cplusplus
@@ -94,8 +97,8 @@ def read_header(source: str) -> Interface:
     return Interface(
         enums=table([(m[1], [enumerator(e) for e in items(m[2], ",")]) for m in ENUM.finditer(text)]),
         structs=table([(m[1], [typed(f) for f in items(m[2], ";")]) for m in STRUCT.finditer(text)]),
-        functions={name: f for name, f in functions.items() if f.result != "const char *"},
-        words={name: f for name, f in functions.items() if f.result == "const char *"},
+        functions={name: f for name, f in functions.items() if f.result not in UNPROVED},
+        words={name: f for name, f in functions.items() if f.result in UNPROVED},
         inlines=table([(m[2], (function(m)[1], " ".join(m[4].split()))) for m in INLINE.finditer(text)]),
         constants=table([(m[1], constant(m[2])) for m in CONSTANT.finditer(text)]),
     )

@@ -17,6 +17,7 @@ TYPES = {
     "*mut u8": "void *",
     "*mut u32": "uint32_t *",
     "*mut [u8; AREA]": "void *",
+    "*mut [u32; TALLY_COUNTS]": "uint32_t *",
 }
 
 

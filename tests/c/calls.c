@@ -11,6 +11,7 @@ int main(void)
     test_listing();
     test_content();
     test_lines();
+    test_tally();
     test_words();
     return verdict_of_checks();
 }

@@ -88,6 +88,7 @@ void test_completing(void);
 void test_listing(void);
 void test_content(void);
 void test_lines(void);
+void test_tally(void);
 void test_words(void);
 
 #endif

@@ -1,7 +1,5 @@
 /* One line, and many lines at once. */
-#include "field.h"
-
-#include <string.h>
+#include "batch.h"
 
 /* ---- One line */
 
@@ -66,92 +64,31 @@ static void long_lines(void)
 
 /* ---- Many lines */
 
-enum { MOST_NUMBERS = 64 };
-
-struct batch {
-    struct partyid_batch says;
-    uint32_t numbers[MOST_NUMBERS];
-};
-
-static size_t line_end(struct bytes text, size_t from)
+/* Also tallied: afresh, and by a tally that is full after two lines. */
+static void lines_in_all_ways(struct bytes text)
 {
-    while (from < text.len && text.at[from] != '\n') {
-        from += 1;
-    }
-    return from;
+    const struct tally fresh = zeros();
+    const struct tally two_left = with(fresh, 17, PARTYID_TALLY_LIMIT - 2);
+    lines_by_room(text, NULL);
+    lines_by_room(text, &fresh);
+    lines_by_room(text, &two_left);
 }
 
-/* What is expected of a text and room for so many numbers: its lines answered one by one. */
-static struct batch one_by_one(struct bytes text, size_t room)
-{
-    struct batch batch;
-    memset(&batch, 0, sizeof batch);
-    while (batch.says.used < text.len && (batch.says.count + 1) * PARTYID_ANSWER_NUMBERS <= room) {
-        size_t end = line_end(text, batch.says.used);
-        struct partyid_answer answer = partyid_answer_line(text.at + batch.says.used, end - batch.says.used);
-        memcpy(batch.numbers + batch.says.count * PARTYID_ANSWER_NUMBERS, &answer, sizeof answer);
-        batch.says.count += 1;
-        batch.says.used = end < text.len ? end + 1 : end;
-    }
-    return batch;
-}
-
-/* By numbers, or by answers where the room is one of whole answers. */
-static struct partyid_batch batch_of(struct block text, struct area area, size_t room, bool by_answers)
-{
-    if (by_answers) {
-        return partyid_check_lines(text.at, text.len, (struct partyid_answer *)(void *)area.at, room / PARTYID_ANSWER_NUMBERS);
-    }
-    return partyid_answer_lines(text.at, text.len, (uint32_t *)(void *)area.at, room);
-}
-
-static void lines_in(enum area_kind kind, struct bytes text, size_t room, struct batch expected)
-{
-    struct bytes written = {(const uint8_t *)expected.numbers, expected.says.count * PARTYID_ANSWER_NUMBERS * sizeof(uint32_t)};
-    int kinds = room % PARTYID_ANSWER_NUMBERS == 0 ? 2 : 1;
-    for (int way = 0; way < ways(text) * kinds; way += 1) {
-        struct block lent = lend(text, way / kinds == 1);
-        struct area area = new_area(kind, room * sizeof(uint32_t));
-        struct partyid_batch found = batch_of(lent, area, room, way % kinds == 1);
-        same_number("lines", expected.says.count, found.count);
-        same_number("bytes used", expected.says.used, found.used);
-        end_area(area, written);
-        give_back(lent);
-    }
-}
-
-static void lines(struct bytes text, size_t room, struct batch expected)
-{
-    for (int kind = 0; kind < AREA_KINDS; kind += 1) {
-        if (has_kind((enum area_kind)kind, room)) {
-            lines_in((enum area_kind)kind, text, room, expected);
-        }
-    }
-}
-
-/* With room for no number, for one, and so on: a line is answered where there is room for all four of its numbers. */
-static void lines_by_room(struct bytes text)
-{
-    for (size_t room = 0; room <= MOST_NUMBERS; room += 1) {
-        lines(text, room, one_by_one(text, room));
-    }
-}
-
-#define LINES(text) (AT_THIS_LINE, lines_by_room(text))
+#define LINES(text) (AT_THIS_LINE, lines_in_all_ways(text))
 
 /* The first example of docs/RULES.md, The line program, with room for all of it, for two lines and a part, and for none. */
 static void example(void)
 {
-    const struct batch all = {{3, 32}, {2, 40, 1, 4, 1, 40, 1, 0, 0, 0, 0, 0}};
-    const struct batch two = {{2, 22}, {2, 40, 1, 4, 1, 40, 1, 0}};
-    const struct batch none = {{0, 0}, {0}};
+    const struct batch all = {{3, 32}, {2, 40, 1, 4, 1, 40, 1, 0, 0, 0, 0, 0}, zeros()};
+    const struct batch two = {{2, 22}, {2, 40, 1, 4, 1, 40, 1, 0}, zeros()};
+    const struct batch none = {{0, 0}, {0}, zeros()};
     struct bytes text = TEXT("0088 34 71\n0088 34 17\n0060 34 x\n");
     AT_THIS_LINE;
-    lines(text, 12, all);
-    lines(text, 13, all);
-    lines(text, 11, two);
-    lines(text, 3, none);
-    lines(text, 0, none);
+    lines(text, NULL, 12, all);
+    lines(text, NULL, 13, all);
+    lines(text, NULL, 11, two);
+    lines(text, NULL, 3, none);
+    lines(text, NULL, 0, none);
 }
 
 static void texts_of_lines(void)

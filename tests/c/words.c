@@ -43,5 +43,5 @@ void test_words(void)
     WORDS("no check figure completes the body", partyid_reason_words(PARTYID_REASON_NO_FIGURE));
     all_words(partyid_verdict_words, PARTYID_VERDICT_UNREAD + 1);
     all_words(partyid_severity_words, PARTYID_SEVERITY_WARNING + 1);
-    all_words(partyid_reason_words, PARTYID_REASON_LINE + 1);
+    all_words(partyid_reason_words, PARTYID_REASON_FULL + 1);
 }
