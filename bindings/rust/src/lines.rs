@@ -1,7 +1,7 @@
 //! Many lines at once.
 
 use crate::Answer;
-use crate::contract;
+use crate::piece::Piece;
 use crate::raw;
 use core::fmt;
 use core::iter::FusedIterator;
@@ -30,58 +30,26 @@ pub fn answer_line(line: impl AsRef<[u8]>) -> Answer {
 pub fn answer_lines<T: AsRef<[u8]> + ?Sized>(text: &T) -> AnswerLines<'_> {
     AnswerLines {
         rest: text.as_ref(),
-        numbers: [0; PIECE * NUMBERS],
-        next: 0,
-        count: 0,
+        piece: Piece::empty(),
     }
 }
-
-// the numbers of an answer
-const NUMBERS: usize = 4;
-
-// how many lines are asked for at a time: enough that a call's own cost is lost among them
-const PIECE: usize = 128;
 
 /// The answers to the lines of a text: what [`answer_lines`] gives.
 #[derive(Clone)]
 pub struct AnswerLines<'a> {
     rest: &'a [u8],
-    numbers: [u32; PIECE * NUMBERS],
-    next: usize,
-    count: usize,
-}
-
-impl AnswerLines<'_> {
-    /// Asks for the next lines' answers. Whatever is left of a text has a line, so that a piece is never empty.
-    fn fill(&mut self) {
-        let batch = raw::answer_lines(self.rest, &mut self.numbers);
-        if batch.count == 0 || batch.count > PIECE || batch.used > self.rest.len() {
-            contract::broken("batch", &batch);
-        }
-        self.rest = &self.rest[batch.used..];
-        self.next = 0;
-        self.count = batch.count;
-    }
+    piece: Piece,
 }
 
 impl Iterator for AnswerLines<'_> {
     type Item = Answer;
 
     fn next(&mut self) -> Option<Answer> {
-        if self.next == self.count {
-            if self.rest.is_empty() {
-                return None;
-            }
-            self.fill();
+        if self.piece.left() == 0 && !self.rest.is_empty() {
+            let used = self.piece.fill(self.rest, raw::answer_lines);
+            self.rest = &self.rest[used..];
         }
-        let at = self.next * NUMBERS;
-        self.next += 1;
-        Some(Answer::of_library(raw::Answer {
-            verdict: self.numbers[at],
-            rule: self.numbers[at + 1],
-            severity: self.numbers[at + 2],
-            reason: self.numbers[at + 3],
-        }))
+        self.piece.take()
     }
 }
 
@@ -89,9 +57,6 @@ impl FusedIterator for AnswerLines<'_> {}
 
 impl fmt::Debug for AnswerLines<'_> {
     fn fmt(&self, f: &mut fmt::Formatter<'_>) -> fmt::Result {
-        f.debug_struct("AnswerLines")
-            .field("ready", &(self.count - self.next))
-            .field("rest", &self.rest.len())
-            .finish()
+        self.piece.debug("AnswerLines", self.rest, f)
     }
 }

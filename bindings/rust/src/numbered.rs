@@ -59,7 +59,7 @@ mod tests {
         );
         assert_eq!(Verdict::from_number(4), None);
         assert_eq!(Severity::from_number(3), None);
-        assert_eq!(Reason::from_number(12), None);
+        assert_eq!(Reason::from_number(13), None);
     }
 
     #[test]

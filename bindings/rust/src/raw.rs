@@ -3,6 +3,9 @@
 /// The size of the area that a text is written to.
 pub const AREA: usize = 1024;
 
+/// How many counts a tally has.
+pub const TALLY_COUNTS: usize = 53;
+
 /// A code point and how many bytes it takes; length 0 is the refusal.
 #[repr(C)]
 #[derive(Clone, Copy, Debug, PartialEq, Eq)]
@@ -93,6 +96,14 @@ unsafe extern "C" {
     ) -> Done;
     fn partyid_answer_line(line: *const u8, len: usize) -> Answer;
     fn partyid_answer_lines(text: *const u8, len: usize, out: *mut u32, room: usize) -> Batch;
+    fn partyid_tally_line(line: *const u8, len: usize, counts: *mut [u32; TALLY_COUNTS]) -> Answer;
+    fn partyid_tally_lines(
+        text: *const u8,
+        len: usize,
+        counts: *mut [u32; TALLY_COUNTS],
+        out: *mut u32,
+        room: usize,
+    ) -> Batch;
 }
 
 // Each function takes any bytes: what it asks of a caller, a pointer with its length, is what a slice is.
@@ -181,4 +192,21 @@ pub fn answer_line(line: &[u8]) -> Answer {
 /// Four numbers for each line, as many lines as there is room for.
 pub fn answer_lines(text: &[u8], out: &mut [u32]) -> Batch {
     unsafe { partyid_answer_lines(text.as_ptr(), text.len(), out.as_mut_ptr(), out.len()) }
+}
+
+pub fn tally_line(line: &[u8], counts: &mut [u32; TALLY_COUNTS]) -> Answer {
+    unsafe { partyid_tally_line(line.as_ptr(), line.len(), counts) }
+}
+
+/// As `answer_lines`, each line counted.
+pub fn tally_lines(text: &[u8], counts: &mut [u32; TALLY_COUNTS], out: &mut [u32]) -> Batch {
+    unsafe {
+        partyid_tally_lines(
+            text.as_ptr(),
+            text.len(),
+            counts,
+            out.as_mut_ptr(),
+            out.len(),
+        )
+    }
 }

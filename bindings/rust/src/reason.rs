@@ -39,6 +39,8 @@ numbered! {
         Term = 10 "the term number is none that a rule reads",
         /// A line whose head is malformed.
         Line = 11 "the head of the line is malformed",
+        /// The tally can count no further line.
+        Full = 12 "the tally is full",
     }
 }
 
