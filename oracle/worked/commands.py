@@ -1,7 +1,7 @@
 """The commands of `cases` and `replay` (crates/examples/README.md), answered by paper."""
 import re
 
-from paper import accounts, corrections, lines, rules, text
+from paper import accounts, corrections, lines, rules, tally, text
 from paper.answers import FORM, Refusal
 
 
@@ -47,8 +47,12 @@ def written(change):
     return answer
 
 
+def decimal(word):
+    return min(int(word), 2**32 - 1)
+
+
 def check(scheme, term, content):
-    return numbers(rules.check(scheme, min(int(term), 2**32 - 1), content))
+    return numbers(rules.check(scheme, decimal(term), content))
 
 
 def figure(number, content):
@@ -76,12 +80,27 @@ def work(does):
     return answer
 
 
-def batch(room, content):
+def batch(room, content, answer_lines=lines.answer_lines):
     """How many lines and bytes were answered, and the whole area, which was so many numbers 999."""
     room = min(int(room), 64)
-    answered, used = lines.answer_lines(content, room)
+    answered, used = answer_lines(content, room)
     area = [number for answer in answered for number in answer]
     return numbers([len(answered), used] + area + [999] * (room - len(area)))
+
+
+def tallied_batch(room, content):
+    """The same, and every count of a tally that was fresh."""
+    counts = tally.fresh()
+    shown = batch(room, content, lambda data, room: tally.tally_lines(data, counts, room))
+    return f"{shown} {numbers(counts)}"
+
+
+def tallied_line(cell, count, line):
+    """The answer, and every count of a tally that was zeros but for one count."""
+    counts = tally.fresh()
+    counts[decimal(cell) % len(counts)] = decimal(count)
+    answer = tally.tally_line(line, counts)
+    return f"{numbers(answer)} {numbers(counts)}"
 
 
 # letter: how many words it reads, the content being the last, and its answer
@@ -99,6 +118,8 @@ COMMANDS = {
     "l": (3, work(corrections.corrections)),
     "a": (1, lambda line: numbers(lines.answer_line(line))),
     "b": (2, batch),
+    "t": (2, tallied_batch),
+    "T": (3, tallied_line),
 }
 
 

@@ -2,8 +2,8 @@
 import re
 
 from paper.corrections import corrections
-from paper.lines import answers
 from paper.rules import check
+from paper.tally import output
 
 from .bindings import cases
 from .commands import answered, numbers
@@ -11,7 +11,7 @@ from .commands import answered, numbers
 
 def examples(source):
     """`c 0088 34 71 => 2 40 1 4`, as the programs of the gate write it."""
-    for line in re.findall(r"^ *([dnscfirgwklab] .* => .*)$", source, re.M):
+    for line in re.findall(r"^ *([dnscfirgwklabtT] .* => .*)$", source, re.M):
         yield line, answered(line.split(" => ")[0])
 
 
@@ -22,9 +22,9 @@ def printed(text):
 
 
 def line_program(source):
-    """`$ printf 'LINES' | ./checklines` and the lines that it prints."""
-    for lines, told in re.findall(r"^ *\$ printf '(.*)' \| \./checklines\n((?: *\d+ \d+ \d+ \d+\n)+)", source, re.M):
-        yield told.split(), answers(printed(lines)).decode().split()
+    """`$ printf 'LINES' | ./checklines` and the lines that it prints; or the first so many of them, by `| head -n COUNT` behind it."""
+    for lines, count, told in re.findall(r"^ *\$ printf '(.*)' \| \./checklines(?: \| head -n (-?\d+))?\n((?: *\d[\d ]*\n)+)", source, re.M):
+        yield [line.strip() for line in told.splitlines()], output(printed(lines)).decode().splitlines()[:int(count) if count else None]
 
 
 def calls_of_c(source):
