@@ -1,9 +1,11 @@
 #!/usr/bin/env python3
-"""Tests the command checklines: its words, its building, its help with the recipes, and its manual page. The program must be built (make).
+"""Tests the command checklines: its words, its counts, its failures, its building, its help with the recipes, and its manual page. The program
+must be built (make).
 
     tests/checklines.py [WORDS of unittest]"""
 from __future__ import annotations
 
+import fcntl
 import os
 import pathlib
 import re
@@ -16,8 +18,18 @@ import unittest
 ROOT = pathlib.Path(__file__).resolve().parent.parent
 SCRIPT = ROOT / "checklines"
 SHELLS = [shell for shell in ("sh", "dash", "bash") if shutil.which(shell)]
+RULES = (40, 41, 42, 43, 44, 45, 46, 47, 49, 50, 52, 53, 54, 55, 57, 561, 562)
+
+
+def counts(of_rules: dict[int, str], of_none: str = "0 0") -> bytes:
+    """The lines behind the answers: zeros but for some rules, and what has no rule."""
+    lines = [f"{rule} {of_rules.get(rule, '0 0 0')}\n" for rule in RULES]
+    return "".join([*lines, f"{of_none}\n"]).encode()
+
+
 ONE_LINE = b"0088 34 71\n"
 ITS_ANSWER = b"2 40 1 4\n"
+ITS_OUTPUT = ITS_ANSWER + counts({40: "0 1 0"})
 
 
 def said(command: list, folder: pathlib.Path | None = None, given: bytes = b"", path: str | None = None) -> tuple[int, bytes, str]:
@@ -57,16 +69,16 @@ class Words(InFolder):
     def test_a_file_and_standard_input(self) -> None:
         (self.folder / "lines").write_bytes(ONE_LINE)
         for words, given in (([], ONE_LINE), (["-"], ONE_LINE), (["--", "-"], ONE_LINE), (["lines"], b""), (["--", "lines"], b"")):
-            self.assertEqual(said([SCRIPT, *words], self.folder, given), (0, ITS_ANSWER, ""))
+            self.assertEqual(said([SCRIPT, *words], self.folder, given), (0, ITS_OUTPUT, ""))
 
     def test_every_shell(self) -> None:
         for shell in SHELLS:
-            self.assertEqual(said([shell, SCRIPT], self.folder, ONE_LINE), (0, ITS_ANSWER, ""))
-            self.assertEqual(said([shell, "checklines"], ROOT, ONE_LINE), (0, ITS_ANSWER, ""))
+            self.assertEqual(said([shell, SCRIPT], self.folder, ONE_LINE), (0, ITS_OUTPUT, ""))
+            self.assertEqual(said([shell, "checklines"], ROOT, ONE_LINE), (0, ITS_OUTPUT, ""))
 
     def test_a_file_whose_name_begins_with_a_dash(self) -> None:
         (self.folder / "-x").write_bytes(ONE_LINE)
-        self.assertEqual(said([SCRIPT, "--", "-x"], self.folder), (0, ITS_ANSWER, ""))
+        self.assertEqual(said([SCRIPT, "--", "-x"], self.folder), (0, ITS_OUTPUT, ""))
         self.refuses(said([SCRIPT, "-x"], self.folder), 2, "unknown option -x; checklines --help says what there is")
 
     def test_a_second_argument_is_named(self) -> None:
@@ -95,6 +107,68 @@ class Words(InFolder):
             self.refuses(in_shell(f"{call} --version >/dev/full"), 1, "can't write")
 
 
+class Counts(unittest.TestCase):
+    """What stands behind the answers."""
+
+    def counted(self, given: bytes, answers: bytes, behind: bytes) -> None:
+        self.assertEqual(said([SCRIPT], given=given), (0, answers + behind, ""))
+
+    def test_no_line_at_all(self) -> None:
+        self.counted(b"", b"", counts({}))
+
+    def test_each_verdict_of_a_rule_and_of_none(self) -> None:
+        given = b"0211 34 IT12345678903\n0211 34 IT1\n0211 34 DE1\n0211 34 DE2\n0060 34 x\n0060 34 y\n0060 34 z\n0088 33 17\nx\n\n9944 31 DE"
+        answers = b"1 47 2 0\n2 47 2 3\n" + 2 * b"3 47 2 0\n" + 3 * b"0 0 0 0\n" + b"2 0 0 10\n" + 2 * b"2 0 0 11\n" + b"3 562 2 0\n"
+        self.counted(given, answers, counts({47: "1 1 2", 562: "0 0 1"}, "3 3"))
+
+    def test_more_lines_than_are_read_at_once(self) -> None:
+        self.counted(100_000 * ONE_LINE, 100_000 * ITS_ANSWER, counts({40: "0 100000 0"}))
+        self.counted(b"x" * 200_000, b"2 0 0 11\n", counts({}, "0 1"))
+
+
+class Failures(InFolder):
+    """A run that can't read or write to the end says so, and prints no counts."""
+
+    def test_nothing_can_be_read(self) -> None:
+        self.refuses(in_shell(f"{SCRIPT} <.", self.folder), 1, "can't read: Is a directory")
+
+    def test_reading_fails_behind_a_line(self) -> None:
+        reading, writing = os.pipe()
+        os.set_blocking(reading, False)
+        os.write(writing, ONE_LINE)
+        done = subprocess.run([SCRIPT], stdin=reading, capture_output=True, check=False)
+        os.close(reading)
+        os.close(writing)
+        message = b"checklines: can't read: Resource temporarily unavailable\n"
+        self.assertEqual((done.returncode, done.stdout, done.stderr), (1, ITS_ANSWER, message))
+
+    def test_answers_can_not_be_written_where_the_counts_could(self) -> None:
+        """Into a pipe that never waits, with too little room left for the answers: up to 4,096 bytes are written whole or not at all."""
+        reading, writing = os.pipe()
+        os.set_blocking(writing, False)
+        size = fcntl.fcntl(writing, fcntl.F_SETPIPE_SZ, 1)
+        before = b"." * (size - 600)
+        os.write(writing, before)
+        done = subprocess.run([SCRIPT], input=100 * ONE_LINE, stdout=writing, stderr=subprocess.PIPE, check=False)
+        behind = counts({40: "0 100 0"})
+        os.write(writing, behind)
+        os.close(writing)
+        with open(reading, "rb") as pipe:
+            self.assertEqual(pipe.read(), before + behind)
+        message = b"checklines: can't write: Resource temporarily unavailable\n"
+        self.assertEqual((done.returncode, done.stderr), (1, message))
+
+    def test_counts_can_not_be_written(self) -> None:
+        self.refuses(in_shell(f"{SCRIPT} </dev/null >/dev/full"), 1, "can't write: No space left on device")
+
+    def test_the_reader_has_gone(self) -> None:
+        reading, writing = os.pipe()
+        os.close(reading)
+        done = subprocess.run([SCRIPT], input=ONE_LINE, stdout=writing, stderr=subprocess.PIPE, check=False)
+        os.close(writing)
+        self.assertEqual((done.returncode, done.stderr), (141, b""))
+
+
 class Links(InFolder):
     """Called through symbolic links, from elsewhere."""
 
@@ -105,8 +179,8 @@ class Links(InFolder):
         relative.symlink_to("absolute")
         folder.symlink_to(ROOT, target_is_directory=True)
         for link in (absolute, relative, folder / "checklines"):
-            self.assertEqual(said([link], self.folder, ONE_LINE), (0, ITS_ANSWER, ""))
-        self.assertEqual(said(["checklines"], given=ONE_LINE, path=f"{folder}:{os.environ['PATH']}"), (0, ITS_ANSWER, ""))
+            self.assertEqual(said([link], self.folder, ONE_LINE), (0, ITS_OUTPUT, ""))
+        self.assertEqual(said(["checklines"], given=ONE_LINE, path=f"{folder}:{os.environ['PATH']}"), (0, ITS_OUTPUT, ""))
 
 
 # An rt that proves nothing, and goes by its stamp as rt does.
@@ -203,16 +277,16 @@ class Building(InFolder):
 
 # What each recipe of the help writes, in a folder with parties.csv, crlf.txt and marked.txt.
 RECIPES = {
-    "awk -F, 'NR > 1 { print $2, 34, $3 }' parties.csv > lines.txt": "",
-    "checklines lines.txt | paste - lines.txt": """\
+    "awk -F, 'NR > 1 { print $2, 34, $3 }' parties.csv > lines.txt": b"",
+    "checklines lines.txt | paste - lines.txt": b"""\
 1 40 1 0	0088 34 1234567890128
 1 41 1 0	0192 34 123456785
 2 41 1 4	0192 34 123456758
 0 0 0 0	0060 34 123456789
-""",
-    "checklines lines.txt | paste - lines.txt | grep -n '^2 '": "3:2 41 1 4	0192 34 123456758\n",
-    r"tr -d '\r' < crlf.txt | checklines": "1 42 1 0\n",
-    "tail -c +4 marked.txt | checklines": "1 40 1 0\n",
+""" + counts({40: "1 0 0", 41: "1 1 0"}, "1 0").replace(b"\n", b"\t\n"),
+    "checklines lines.txt | paste - lines.txt | grep -n '^2 '": b"3:2 41 1 4	0192 34 123456758\n",
+    r"tr -d '\r' < crlf.txt | checklines": b"1 42 1 0\n" + counts({42: "1 0 0"}),
+    "tail -c +4 marked.txt | checklines": b"1 40 1 0\n" + counts({40: "1 0 0"}),
 }
 
 
@@ -230,7 +304,7 @@ class Help(InFolder):
         self.assertEqual(recipes, list(RECIPES))
         for recipe, written in RECIPES.items():
             got = in_shell(recipe, self.folder, f"{ROOT}:{os.environ['PATH']}")
-            self.assertEqual(got, (0, written.encode(), ""), recipe)
+            self.assertEqual(got, (0, written, ""), recipe)
 
     def test_it_names_the_schemes_that_have_a_rule(self) -> None:
         lines = "".join(f"{scheme:04} 34 x\n" for scheme in range(10000))
@@ -257,7 +331,8 @@ def section(heading: str) -> str:
 
 
 def answers_to(lines: str) -> list[str]:
-    return said([SCRIPT], given=lines.encode())[1].decode().splitlines()
+    """The output without the counts."""
+    return said([SCRIPT], given=lines.encode())[1].decode().splitlines()[: -len(RULES) - 1]
 
 
 def verdicts(lines: str) -> list[str]:
