@@ -14,6 +14,7 @@ pub const ROOM: u32 = 8;
 pub const GOOD: u32 = 9;
 pub const TERM: u32 = 10;
 pub const LINE: u32 = 11;
+pub const FULL: u32 = 12;
 
 /// The answer where no rule reads a field.
 pub const NO_RULE: Answer = answer(0, 0, 0, 0);
@@ -39,6 +40,9 @@ const fn answer(verdict: u32, rule: u32, severity: u32, reason: u32) -> Answer {
     }
 }
 
+/// What can come of a line; FULL comes of a tally.
+pub const OF_A_LINE: usize = 10;
+
 /// What the original can read of a content; the reason where it can't.
 pub fn readable(content: &[u8]) -> Result<&str, u32> {
     if AREA < content.len() {
@@ -50,7 +54,7 @@ pub fn readable(content: &[u8]) -> Result<&str, u32> {
 impl Found for Answer {
     #[rustfmt::skip]
     const OUTCOMES: &[&str] = &[
-        "no rule", "accepted", "let through", "LONG", "UTF8", "FORM", "CHECK", "ZERO", "TERM", "LINE",
+        "no rule", "accepted", "let through", "LONG", "UTF8", "FORM", "CHECK", "ZERO", "TERM", "LINE", "FULL",
     ];
 
     fn outcome(&self, _: Input<'_>) -> usize {
@@ -60,6 +64,7 @@ impl Found for Answer {
             (3, _) => 2,
             (_, TERM) => 8,
             (_, LINE) => 9,
+            (_, FULL) => 10,
             (_, reason) => 2 + reason as usize,
         }
     }

@@ -3,11 +3,13 @@
 
 use std::fmt::{self, Debug};
 
-/// A scheme, a number (a term, a room, a place, a code point) and a content. A function reads those that it has words for.
+/// A scheme, a number (a term, a room, a place, a code point), a tally's counts, of which the last ones may be left out where they are zeros, and a
+/// content. A function reads those that it has words for.
 #[derive(Clone, Copy, Default)]
 pub struct Input<'a> {
     pub scheme: &'a [u8],
     pub number: u64,
+    pub counts: &'a [u32],
     pub content: &'a [u8],
 }
 
@@ -24,6 +26,7 @@ impl<'a> Input<'a> {
 pub enum Part {
     Scheme,
     Number(&'static str),
+    Counts,
     Content(&'static str),
 }
 
@@ -116,6 +119,13 @@ pub fn shown(bytes: &[u8]) -> String {
         words.push(literal(&bytes[short]));
     }
     words.join(", then ")
+}
+
+/// The counts that are not zero, each behind its place.
+pub fn shown_counts(counts: &[u32]) -> String {
+    let counted = counts.iter().enumerate().filter(|(_, count)| **count != 0);
+    let words = counted.map(|(at, count)| format!("{at}: {count}"));
+    format!("counts {{{}}}", words.collect::<Vec<_>>().join(", "))
 }
 
 /// Bytes as the examples have them: plain ASCII as it is; any other byte, and `\`, as `\` and two hexadecimal digits.

@@ -11,6 +11,7 @@ pub use invoice::Identifier;
 pub mod accounts;
 pub mod answers;
 pub mod corrections;
+pub mod counts;
 pub mod functions;
 pub mod known;
 #[path = "../../bindings/rust/src/raw.rs"]
@@ -23,6 +24,7 @@ pub mod text;
 pub mod exhaustive;
 pub mod fields;
 pub mod identifiers;
+pub mod input_counts;
 pub mod input_lines;
 pub mod input_numbers;
 pub mod inputs;

@@ -1,6 +1,6 @@
 //! One line, and the lines of a text: each line's answer is the field check of the original.
 
-use crate::answers::{LINE, refused};
+use crate::answers::{LINE, OF_A_LINE, refused};
 use crate::functions::Part::{Content, Number};
 use crate::functions::{Call, Found, Function, Input, Lent, Part, Rows, row};
 use crate::library::{self, Answer, Batch};
@@ -35,11 +35,18 @@ pub fn answer_line(line: &[u8]) -> Answer {
 }
 
 /// The answers to the lines of a text as four numbers each, for as many lines as there is room, and the bytes of these lines.
-pub fn answer_lines(text: &[u8], room: usize) -> (Batch, Vec<u32>) {
+pub fn answer_lines(text: &[u8], room: usize) -> Answers {
+    each_line(text, room, answer_line)
+}
+
+/// How many lines were answered, of how many bytes, and the numbers of the answers.
+pub type Answers = (Batch, Vec<u32>);
+
+pub fn each_line(text: &[u8], room: usize, mut answer: impl FnMut(&[u8]) -> Answer) -> Answers {
     let mut used = 0;
     let mut numbers = Vec::new();
     for line in lines(text).take(room / 4) {
-        let a = answer_line(line.strip_suffix(b"\n").unwrap_or(line));
+        let a = answer(line.strip_suffix(b"\n").unwrap_or(line));
         numbers.extend([a.verdict, a.rule, a.severity, a.reason]);
         used += line.len();
     }
@@ -59,7 +66,7 @@ impl Function for AnswerLine {
     const PARTS: &[Part] = &[Content("line")];
     const LIBRARY: Call<Answer> = |i| library::answer_line(i.content);
     const ORIGINAL: Call<Answer> = |i| answer_line(i.content);
-    const ROWS: Rows = || row("answer_line", Answer::OUTCOMES);
+    const ROWS: Rows = || row("answer_line", &Answer::OUTCOMES[..OF_A_LINE]);
     const LETTER: char = 'a';
 }
 
@@ -68,8 +75,21 @@ pub struct AnswerLines;
 /// Both counts and every number of the area; and the numbers of as many calls as it takes to the end, each from where the one before it ended.
 #[derive(Debug, PartialEq)]
 pub struct Lines {
-    first: Lent<Batch, u32>,
-    all: Vec<u32>,
+    pub first: Lent<Batch, u32>,
+    pub all: Vec<u32>,
+}
+
+impl Lines {
+    /// What the original answers with so much room, and with the room for all.
+    pub fn answered(room: usize, (batch, numbers): Answers, (_, all): Answers) -> Self {
+        let first = Lent::filled(batch, &numbers, FILL, room);
+        Self { first, all }
+    }
+}
+
+/// The room for all lines; where no line fits, none ever does.
+pub fn room_for_all(room: usize) -> usize {
+    if room < 4 { 0 } else { usize::MAX }
 }
 
 impl Function for AnswerLines {
@@ -78,18 +98,14 @@ impl Function for AnswerLines {
     const LIBRARY: Call<Lines> = |i| {
         let room = i.number as usize;
         Lines {
-            first: called(i.content, room),
-            all: by_parts(i.content, room),
+            first: called(i.content, room, library::answer_lines),
+            all: by_parts(i.content, room, library::answer_lines),
         }
     };
     const ORIGINAL: Call<Lines> = |i| {
         let room = i.number as usize;
-        let (batch, numbers) = answer_lines(i.content, room);
-        let all = if room < 4 { 0 } else { usize::MAX };
-        Lines {
-            first: Lent::filled(batch, &numbers, FILL, room),
-            all: answer_lines(i.content, all).1,
-        }
+        let answered = |room| answer_lines(i.content, room);
+        Lines::answered(room, answered(room), answered(room_for_all(room)))
     };
     const ROWS: Rows = || row("answer_lines", Lines::OUTCOMES);
     const LETTER: char = 'b';
@@ -98,18 +114,26 @@ impl Function for AnswerLines {
 /// What an area is filled with before a call: a number that no answer has.
 const FILL: u32 = 999;
 
-fn called(text: &[u8], room: usize) -> Lent<Batch, u32> {
+pub fn called(
+    text: &[u8],
+    room: usize,
+    mut library: impl FnMut(&[u8], &mut [u32]) -> Batch,
+) -> Lent<Batch, u32> {
     let mut area = vec![FILL; room];
-    let head = library::answer_lines(text, &mut area);
+    let head = library(text, &mut area);
     Lent { head, area }
 }
 
 /// A call that takes nothing ends it.
-fn by_parts(text: &[u8], room: usize) -> Vec<u32> {
+pub fn by_parts(
+    text: &[u8],
+    room: usize,
+    mut library: impl FnMut(&[u8], &mut [u32]) -> Batch,
+) -> Vec<u32> {
     let mut numbers = Vec::new();
     let mut at = 0;
     while at < text.len() {
-        let Lent { head, area } = called(&text[at..], room);
+        let Lent { head, area } = called(&text[at..], room, &mut library);
         numbers.extend(area.iter().take(4 * head.count));
         if head.used == 0 {
             break;

@@ -31,7 +31,7 @@ fn by_rule(report: &mut Report, scheme: &str, term: u32, content: &[u8]) {
     report.compare::<ByRule>(Input {
         scheme: scheme.as_bytes(),
         number: u64::from(term),
-        content,
+        ..Input::of(content)
     });
 }
 

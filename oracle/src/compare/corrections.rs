@@ -13,7 +13,7 @@ fn compare<F: Function>(report: &mut Report, scheme: &[u8], content: &[u8], room
     report.compare::<F>(Input {
         scheme,
         number: room as u64,
-        content,
+        ..Input::of(content)
     });
 }
 

@@ -13,7 +13,7 @@ fn compare(report: &mut Report, scheme: &[u8], term: u32, content: &[u8]) {
     let input = Input {
         scheme,
         number: u64::from(term),
-        content,
+        ..Input::of(content)
     };
     report.compare::<Check>(input);
     report.compare::<EasValue>(Input { number: 0, ..input });

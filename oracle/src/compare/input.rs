@@ -9,6 +9,7 @@ pub struct Kept {
     number: u64,
     content: Vec<u8>,
     scheme: Vec<u8>,
+    counts: Vec<u32>,
 }
 
 impl From<Input<'_>> for Kept {
@@ -18,6 +19,7 @@ impl From<Input<'_>> for Kept {
             number: input.number,
             content: input.content.to_vec(),
             scheme: input.scheme.to_vec(),
+            counts: input.counts.to_vec(),
         }
     }
 }
@@ -27,12 +29,13 @@ impl Kept {
         Input {
             scheme: &self.scheme,
             number: self.number,
+            counts: &self.counts,
             content: &self.content,
         }
     }
 }
 
-/// Leaves out bytes, lowers the number and makes bytes plainer, for as long as the input still `differs`.
+/// Leaves out bytes, lowers the number and the counts and makes bytes plainer, for as long as the input still `differs`.
 pub fn smallest(input: Input<'_>, differs: impl Fn(Input<'_>) -> bool) -> Kept {
     let mut best = Kept::from(input);
     loop {
@@ -46,6 +49,8 @@ pub fn smallest(input: Input<'_>, differs: impl Fn(Input<'_>) -> bool) -> Kept {
             next.scheme = scheme;
             let now = next.input();
             next.number = lower(now.number, |number| differs(Input { number, ..now }));
+            let now = next.input();
+            next.counts = lower_each(now.counts, |counts| differs(Input { counts, ..now }));
         }
         next = Kept::from(next.input());
         if next == best {
@@ -90,6 +95,18 @@ fn lower(number: u64, differs: impl Fn(u64) -> bool) -> u64 {
             step /= 2;
         }
     }
+    best
+}
+
+/// Lowers one count after another, and leaves out the zeros behind the last one.
+fn lower_each(counts: &[u32], differs: impl Fn(&[u32]) -> bool) -> Vec<u32> {
+    let mut best = counts.to_vec();
+    for at in 0..best.len() {
+        let with = |count: u64| [&best[..at], &[count as u32], &best[at + 1..]].concat();
+        best[at] = lower(u64::from(best[at]), |count| differs(&with(count))) as u32;
+    }
+    let end = best.iter().rposition(|&count| count != 0);
+    best.truncate(end.map_or(0, |last| last + 1));
     best
 }
 

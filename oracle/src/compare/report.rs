@@ -4,6 +4,7 @@ use std::any::TypeId;
 
 use oracle::accounts::{Creditor, EasValue, Iban, Withdrawn};
 use oracle::corrections::{Complete, List};
+use oracle::counts::{TallyLine, TallyLines};
 use oracle::functions::{Function, Input};
 use oracle::lines::{AnswerLine, AnswerLines};
 use oracle::rules::{ByRule, Check};
@@ -30,10 +31,12 @@ impl Report {
                 Tally::of::<Creditor>(),
                 Tally::of::<EasValue>(),
                 Tally::of::<AnswerLine>(),
+                Tally::of::<TallyLine>(),
                 Tally::of::<Withdrawn>(),
                 Tally::of::<Complete>(),
                 Tally::of::<List>(),
                 Tally::of::<AnswerLines>(),
+                Tally::of::<TallyLines>(),
             ],
         }
     }

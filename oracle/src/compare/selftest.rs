@@ -61,7 +61,7 @@ fn compared(block: u64) -> Tally {
         tally.compare(Input {
             scheme,
             number,
-            content: &content,
+            ..Input::of(&content)
         });
     }
     tally

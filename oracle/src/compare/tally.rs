@@ -2,7 +2,7 @@
 
 use std::any::TypeId;
 
-use oracle::functions::{Found, Function, Input, Part, Row, shown};
+use oracle::functions::{Found, Function, Input, Part, Row, shown, shown_counts};
 
 use super::input::{Kept, smallest};
 
@@ -28,6 +28,7 @@ fn written(parts: &[Part], input: Input<'_>) -> String {
     let words = parts.iter().map(|part| match part {
         Part::Scheme => format!("scheme {}", shown(input.scheme)),
         Part::Number(name) => format!("{name} {}", input.number),
+        Part::Counts => shown_counts(input.counts),
         Part::Content(name) => format!("{name} {}", shown(input.content)),
     });
     words.collect::<Vec<_>>().join(", ")

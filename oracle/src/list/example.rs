@@ -21,6 +21,7 @@ impl Example {
             scheme,
             number,
             content: &content,
+            ..Input::default()
         };
         let found = F::ORIGINAL(input);
         Self {
@@ -61,6 +62,7 @@ fn head(parts: &[Part], input: Input<'_>) -> Vec<u8> {
     let words = parts.iter().map(|part| match part {
         Part::Scheme => [input.scheme, b" "].concat(),
         Part::Number(_) => format!("{} ", input.number).into_bytes(),
+        Part::Counts => unreachable!("no command reads a tally's counts"),
         Part::Content(_) => Vec::new(),
     });
     words.collect::<Vec<_>>().concat()
