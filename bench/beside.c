@@ -1,7 +1,7 @@
 /* Times two builds of the library: beside ROUNDS BEFORE.so NOW.so
  *
  * Nanoseconds for an answer, medians of the rounds, in which the two take turns; a star where their answers differ. A call goes through a pointer,
- * on both sides. All functions of the header but answer_lines, decode and is_white have a row. */
+ * on both sides. All functions of the header but answer_lines, those of a tally, decode and is_white have a row. */
 #define _POSIX_C_SOURCE 200809L
 #include <dlfcn.h>
 #include <stdint.h>

@@ -4,7 +4,7 @@ use std::io::{self, BufRead, BufReader, BufWriter, StdoutLock, Write};
 
 use oracle::library::Answer;
 
-use crate::predicates::answer_line;
+use crate::tally::Tally;
 
 /// The words that ask for it.
 pub const FORMATTED: &str = "lines";
@@ -12,7 +12,7 @@ pub const TUNED: &str = "lines-tuned";
 
 type Output = BufWriter<StdoutLock<'static>>;
 
-/// Answers the lines of the standard input.
+/// Answers the lines of the standard input, and writes the counts behind the answers.
 pub fn run(write: impl Fn(&mut Output, Answer) -> io::Result<()>) {
     answer_all(write).expect("input and output");
 }
@@ -20,14 +20,16 @@ pub fn run(write: impl Fn(&mut Output, Answer) -> io::Result<()>) {
 fn answer_all(write: impl Fn(&mut Output, Answer) -> io::Result<()>) -> io::Result<()> {
     let mut input = BufReader::with_capacity(65536, io::stdin().lock());
     let mut output = BufWriter::with_capacity(65536, io::stdout().lock());
+    let mut tally = Tally::new();
     let mut line = Vec::new();
     while input.read_until(b'\n', &mut line)? > 0 {
         if line.last() == Some(&b'\n') {
             line.pop();
         }
-        write(&mut output, answer_line(&line))?;
+        write(&mut output, tally.answer_line(&line))?;
         line.clear();
     }
+    tally.write(&mut output)?;
     output.flush()
 }
 

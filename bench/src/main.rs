@@ -14,6 +14,7 @@ mod row;
 mod run;
 mod some_lines;
 mod table;
+mod tally;
 mod text;
 
 /// Some two minutes on an idle machine, with the building.

@@ -54,6 +54,14 @@ pub fn plain(answer: Answer) -> Answer {
     }
 }
 
+/// The counts of a rule as far as the predicates go, behind its number.
+pub fn plain_row(mut row: Vec<u32>) -> Vec<u32> {
+    if let [_, accepted, _, unread] = &mut row[..] {
+        *accepted += std::mem::take(unread);
+    }
+    row
+}
+
 /// The number and the severity of the rule for a scheme.
 fn rule_of(scheme: &[u8], term: u32) -> Option<(u32, u32)> {
     Some(match scheme {

@@ -8,7 +8,7 @@ use oracle::library::Answer;
 
 use crate::line_program;
 use crate::lines::answer_of;
-use crate::predicates::plain;
+use crate::predicates::{plain, plain_row};
 use crate::row::{Function, Row};
 use crate::some_lines::some_lines;
 
@@ -28,7 +28,7 @@ const BENCH: &str = concat!("target/bench/", env!("PLACE"), "/bench");
 
 static CHECKLINES: Function = Function {
     name: "checklines",
-    lean: "a Rust program over the plain `answer_line`, which writes its digits itself",
+    lean: "a Rust program over the plain `tally_line`, which writes its digits itself",
     plain: "the same by `writeln!`",
 };
 
@@ -48,7 +48,7 @@ impl Programs {
     pub fn new(input: &[u8]) -> Self {
         fs::write(FILE, input).expect("the file of lines");
         let [ours, tuned, rust, _] = COMMANDS.map(|words| output(words).stdout);
-        let agreed = answers(&ours).map(plain).eq(answers(&rust));
+        let agreed = said(&ours) == said(&rust);
         assert!(agreed && rust == tuned, "the line programs differ");
         Self::default()
     }
@@ -96,13 +96,20 @@ fn output(words: &[&str]) -> Output {
     output
 }
 
-fn answers(output: &[u8]) -> impl Iterator<Item = Answer> {
-    let lines = output.split_inclusive(|&b| b == b'\n');
-    lines.map(|line| {
-        let words = str::from_utf8(line).expect("digits").split_whitespace();
-        let numbers: Vec<_> = words.map(|word| word.parse().expect("a number")).collect();
-        answer_of(&numbers)
-    })
+/// The answers and the rows of counts, as far as the predicates go.
+fn said(output: &[u8]) -> (Vec<Answer>, Vec<Vec<u32>>) {
+    let text = str::from_utf8(output).expect("digits");
+    let numbers = |line: &str| {
+        let words = line.split_whitespace();
+        words.map(|word| word.parse().expect("a number")).collect()
+    };
+    let mut answers: Vec<Vec<u32>> = text.lines().map(numbers).collect();
+    let counts = answers.split_off(LINES);
+    let answers = answers.iter().map(|numbers| plain(answer_of(numbers)));
+    (
+        answers.collect(),
+        counts.into_iter().map(plain_row).collect(),
+    )
 }
 
 // ---- instructions
