@@ -71,6 +71,14 @@ def code_words(code: partyid.Code) -> Words:
     return number_words([code.answer]) + ([code.successor.encode()] if code.successor else [])
 
 
+def tallied(counts: Iterable[bytes], feed: Callable[[partyid.Tally], Iterable[partyid.Answer]]) -> Words:
+    """The answers that a tally of these counts gives, and its counts that are not 0."""
+    given = {int(place): int(count) for place, count in (word.split(b":") for word in counts)}
+    tally = partyid.Tally(given.get(place, 0) for place in range(partyid.TALLY_COUNTS))
+    answers = number_words(n for answer in feed(tally) for n in answer)
+    return answers + [b"%d:%d" % (place, count) for place, count in enumerate(tally.counts) if count]
+
+
 CALLS: dict[str, Callable[..., Words]] = {
     "answer_line": lambda line: number_words(partyid.answer_line(line)),
     "answer_lines": lambda text: number_words(n for answer in partyid.answer_lines(text) for n in answer),
@@ -84,6 +92,8 @@ CALLS: dict[str, Callable[..., Words]] = {
     "list": lambda scheme, content: settled(lambda: partyid.corrections(scheme, content)),
     "normalize_space": lambda content: settled(lambda: partyid.normalize_space(content)),
     "strip": lambda content: settled(lambda: partyid.strip(content)),
+    "tally_line": lambda line, *counts: tallied(counts, lambda tally: [tally.feed(line)]),
+    "tally_lines": lambda text, *counts: tallied(counts, lambda tally: tally.feed_lines(text)),
     "withdrawn": lambda code: code_words(partyid.withdrawn(code)),
 }
 

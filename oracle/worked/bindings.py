@@ -1,7 +1,7 @@
 """bindings/cases.txt, which every binding's test runs: its words, and the answers of paper."""
 import re
 
-from paper import accounts, corrections, lines, rules, text
+from paper import accounts, corrections, lines, rules, tally, text
 from paper.answers import Refusal
 
 ENOUGH = 1024
@@ -35,6 +35,15 @@ def decode(content, at):
     return [f"{code:x}", length]
 
 
+def tallied(given, feed):
+    """The answers that a tally of these counts gives, and its counts that are not 0."""
+    counts = tally.fresh()
+    for place, count in (word.split(b":") for word in given):
+        counts[int(place)] = int(count)
+    answers = [n for answer in feed(counts) for n in answer]
+    return answers + [f"{place}:{count}" for place, count in enumerate(counts) if count]
+
+
 CALLS = {
     "check": lambda scheme, term, content: rules.check(scheme, int(term), content),
     "is_valid_iban_checksum": accounts.iban,
@@ -49,6 +58,8 @@ CALLS = {
     "is_white": lambda *codes: sorted({int(int(code, 16) in text.WHITE) for code in codes}),
     "answer_line": lines.answer_line,
     "answer_lines": lambda content: [n for line in lines.split(content) for n in lines.answer_line(line.removesuffix(b"\n"))],
+    "tally_line": lambda line, *given: tallied(given, lambda counts: [tally.tally_line(line, counts)]),
+    "tally_lines": lambda content, *given: tallied(given, lambda counts: tally.tally_lines(content, counts, 4 * len(content))[0]),
 }
 
 

@@ -1,8 +1,8 @@
 //! Calls a function by its name, and writes its answer as bindings/cases.txt does.
 
-use partyid::{Answer, Reason, Text, Withdrawal};
+use partyid::{Answer, Reason, TALLY_COUNTS, Tally, Text, Withdrawal};
 
-pub const FUNCTIONS: [&str; 13] = [
+pub const FUNCTIONS: [&str; 15] = [
     "answer_line",
     "answer_lines",
     "check",
@@ -15,6 +15,8 @@ pub const FUNCTIONS: [&str; 13] = [
     "list",
     "normalize_space",
     "strip",
+    "tally_line",
+    "tally_lines",
     "withdrawn",
 ];
 
@@ -34,6 +36,8 @@ pub fn answer(function: &str, a: &[Vec<u8>]) -> Words {
         "list" => list(&a[0], &a[1]),
         "normalize_space" => text(partyid::normalize_space(&a[0])),
         "strip" => text(partyid::strip(&a[0])),
+        "tally_line" => tallied(&a[1..], |tally| numbers([tally.feed(&a[0])])),
+        "tally_lines" => tallied(&a[1..], |tally| numbers(tally.feed_lines(&a[0]))),
         "withdrawn" => code(partyid::withdrawn(&a[0])),
         _ => panic!("{function} is no function"),
     }
@@ -56,6 +60,26 @@ fn numbers(answers: impl IntoIterator<Item = Answer>) -> Words {
         .into_iter()
         .flat_map(Answer::numbers)
         .map(word)
+        .collect()
+}
+
+/// What comes of a tally of these counts, and its counts that are not 0.
+fn tallied(counts: &[Vec<u8>], feed: impl FnOnce(&mut Tally) -> Words) -> Words {
+    let mut given = [0; TALLY_COUNTS];
+    for count in counts {
+        let (place, number) = utf8(count).split_once(':').expect("a place and a count");
+        given[decimal::<usize>(place.as_bytes())] = decimal(number.as_bytes());
+    }
+    let mut tally = Tally::from(given);
+    let answers = feed(&mut tally);
+    let counted = tally
+        .counts()
+        .iter()
+        .enumerate()
+        .filter(|(_, count)| **count > 0);
+    answers
+        .into_iter()
+        .chain(counted.map(|(place, count)| word(format!("{place}:{count}"))))
         .collect()
 }
 
