@@ -278,13 +278,14 @@ class Building(InFolder):
 # What each recipe of the help writes, in a folder with parties.csv, crlf.txt and marked.txt.
 RECIPES = {
     "awk -F, 'NR > 1 { print $2, 34, $3 }' parties.csv > lines.txt": b"",
-    "checklines lines.txt | paste - lines.txt": b"""\
+    "checklines lines.txt | head -n -18 | paste - lines.txt": b"""\
 1 40 1 0	0088 34 1234567890128
 1 41 1 0	0192 34 123456785
 2 41 1 4	0192 34 123456758
 0 0 0 0	0060 34 123456789
-""" + counts({40: "1 0 0", 41: "1 1 0"}, "1 0").replace(b"\n", b"\t\n"),
-    "checklines lines.txt | paste - lines.txt | grep -n '^2 '": b"3:2 41 1 4	0192 34 123456758\n",
+""",
+    "checklines lines.txt | head -n -18 | paste - lines.txt | grep -n '^2 '": b"3:2 41 1 4	0192 34 123456758\n",
+    "checklines lines.txt | tail -n 18": counts({40: "1 0 0", 41: "1 1 0"}, "1 0"),
     r"tr -d '\r' < crlf.txt | checklines": b"1 42 1 0\n" + counts({42: "1 0 0"}),
     "tail -c +4 marked.txt | checklines": b"1 40 1 0\n" + counts({40: "1 0 0"}),
 }

@@ -64,7 +64,7 @@ def answer_numbers(crates: pathlib.Path, structs: dict[str, list[Typed]]) -> str
     written = re.search(r"^answerNumbers a =([^\[]*)\[\]$", answers, re.M)
     if not written or re.findall(r"a \.(\w+)", written[1]) != [name for _, name in structs["partyid_answer"]]:
         raise Unreadable("answer/specs/Answers.antt: answerNumbers has other numbers than PartyidAnswer, or in another order")
-    return number_in(crates, "lines/specs/Batch.antt", r"^numbersEach = (\d+)$")
+    return number_in(crates, "batch/specs/Batch.antt", r"^numbersEach = (\d+)$")
 
 
 def most_digits(crates: pathlib.Path) -> str:

@@ -29,9 +29,9 @@ def rule_numbers(crates: pathlib.Path) -> list[int]:
 def places(crates: pathlib.Path) -> Places:
     """By the definitions, which give each place to one rule and verdict."""
     verdicts, text = dict(cases(crates)["verdict"]), (crates / CELLS).read_text()
-    among, others = dict(equations(text, "placeOf")), dict(equations(text, "otherCell"))
-    each = int(number_in(crates, CELLS, r"^cellBy \(By r\) v = (\d+) \* facts r \.index \+ placeOf v$"))
-    found = {(rule, verdicts[name]): each * i + among[name] for i, rule in enumerate(rule_numbers(crates)) for name in BY_RULE}
+    others = dict(equations(text, "otherCell"))
+    each = int(number_in(crates, CELLS, r"^cellBy \(By r\) v = (\d+) \* facts r \.index \+ \(verdictNumber v - 1\)$"))
+    found = {(rule, verdicts[name]): each * i + verdicts[name] - 1 for i, rule in enumerate(rule_numbers(crates)) for name in BY_RULE}
     found |= {(0, verdicts[name]): others[called] for name, called in WITHOUT_RULE.items()}
     if sorted(found.values()) != list(range(int(number_in(crates, CELLS, r"^cells = (\d+)$")))):
         raise Unreadable(f"{CELLS}: the places are {sorted(found.values())}")

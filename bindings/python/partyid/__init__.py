@@ -35,7 +35,7 @@ __version__ = "0.1.0"
 
 from .answers import Answer, Code, Point, Reason, Refusal, Severity, Verdict, Withdrawal
 from .checks import check, eas_value, is_valid_creditor_identifier, is_valid_iban_checksum, withdrawn
-from .library import ANSWER_NUMBERS, AREA, LIST_DIGITS, TALLY_COUNTS, Content, Disagreement, LibraryError
+from .library import ANSWER_NUMBERS, AREA, LIST_DIGITS, TALLY_COUNTS, TALLY_LIMIT, Content, Disagreement, LibraryError
 from .lines import Line, answer_line, answer_lines, answer_numbers, check_lines
 from .listing import complete, corrections
 from .tables import RULES, TERMS, Rule, Term
@@ -59,6 +59,7 @@ __all__ = [
     "Rule",
     "Severity",
     "TALLY_COUNTS",
+    "TALLY_LIMIT",
     "TERMS",
     "Tally",
     "Term",

@@ -19,6 +19,7 @@ AREA = 1024
 LIST_DIGITS = 20
 ANSWER_NUMBERS = 4
 TALLY_COUNTS = 53
+TALLY_LIMIT = 4294967295
 MOST_U32 = 2**32 - 1
 MOST_SIZE = 2 ** (8 * ctypes.sizeof(ctypes.c_size_t)) - 1
 
