@@ -1,5 +1,5 @@
 -- Many lines at once: what is written for the first of them, and what remains. Assumes nothing.
-use mathlib.Core.Path.{_≡_, refl, sym, _∙_, ap}
+use mathlib.Core.Path.{_≡_, refl, ap}
 use mathlib.Core.Bool.{true}
 use mathlib.Core.List.{List, [], _∷_, _++_}
 use Prim.Native.Nat.{ℕ, suc, _+_, _-_, _*_, _/_, _≤_, _<_}
@@ -13,8 +13,8 @@ use Rattle.answer.specs.declared.record.Answer.{Answer}
 use Rattle.answer.specs.Numbers.{verdictNumber, severityNumber, reasonNumber}
 use Rattle.answer.specs.Answers.{answerNumbers, inTurn}
 use Rattle.lines.specs.Line.{answerOf}
-use Rattle.lines.specs.Lines.{linesOf, split, spanned, answersTo}
-use Rattle.lines.proofs.Feeding.{First, Through, through-none, through-line, through-within, Ended, through-ended, Said, said-none, said-more, said-size}
+use Rattle.lines.specs.Lines.{linesOf, answersTo}
+use Rattle.lines.proofs.Feeding.{First, Through, through-none, through-line, through-within, through-ended, Said, said-none, said-more, said-size}
 use Rattle.tally.specs.Tally.{replies, after}
 use Rattle.tally.specs.Inner.{fedIf, fedIn}
 use Rattle.tally.proofs.Running.{Running, running-reply, running-line}

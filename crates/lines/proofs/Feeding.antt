@@ -1,6 +1,6 @@
 -- A loop that goes through the lines of a text and writes an answer for each. Assumes nothing.
 use mathlib.Core.Path.{_≡_, refl, sym, _∙_, ap}
-use mathlib.Core.Bool.{Bool, true, false}
+use mathlib.Core.Bool.{Bool, true}
 use mathlib.Core.List.{List, [], _∷_, _++_, append-assoc, append-nil}
 use Prim.Native.Nat.{ℕ, suc, _+_, _-_, _*_, _≤_, _<_, min}
 use native.Mathlib.Nat.{mul-suc}
@@ -11,7 +11,7 @@ use lib.ListN.{length, take, drop, length-append, length-drop, drop-of-length-le
 use lib.Seq.{take-all, drop-drop, length-take-le}
 use borrow.Author.Tests.{ltb-true, ltb-false}
 use Rattle.ascii.specs.Area.{Put}
-use Rattle.ascii.proofs.Area.{put-none, put-more, put-most, put-size}
+use Rattle.ascii.proofs.Area.{put-none, put-more, put-size}
 use Rattle.answer.specs.declared.record.Answer.{Answer}
 use Rattle.answer.specs.Answers.{inTurn}
 use Rattle.lines.specs.Lines.{split, linesOf, ended, extent, spanned}

@@ -1,12 +1,12 @@
 -- However the input is cut into chunks, what is written in all is what the definition says. Assumes nothing.
 use mathlib.Core.Path.{_≡_, refl, sym, _∙_, ap}
-use mathlib.Core.Bool.{Bool, true, false}
+use mathlib.Core.Bool.{true, false}
 use mathlib.Core.List.{List, [], _∷_, _++_, append-assoc, append-nil}
-use Prim.Native.Nat.{ℕ, zero, suc, _+_, _-_, _/_, _≤_, _<_, min}
+use Prim.Native.Nat.{ℕ, zero, suc, _+_, _/_, _≤_, _<_, min}
 use native.Mathlib.Omega.{arith}
 use lib.Dec.{ltb}
 use lib.ListN.{length, take, drop, length-append, length-take, length-drop}
-use lib.Seq.{take-all, take-nil, drop-drop, length-take-le}
+use lib.Seq.{drop-drop, length-take-le}
 use borrow.Author.Tests.{le-leb, ltb-true, ltb-false}
 use Rattle.ascii.specs.Area.{joined}
 use Rattle.ascii.specs.Pick.{pick}
@@ -20,7 +20,7 @@ use Rattle.lines.specs.Lines.{linesOf, ended, extent, spanned}
 use Rattle.lines.specs.Inner.{upto}
 use Rattle.lines.proofs.Heads.{answer-cut}
 use Rattle.lines.proofs.Splits.{by, Open, upto-le, split-line, ended-line, ended-open, open-take, fronted, lines-open, fronted-first, fronted-alone}
-use Rattle.tally.specs.Tally.{fresh, isFull, oneMore, fed, replies, after}
+use Rattle.tally.specs.Tally.{fresh, fed, replies, after}
 use Rattle.tally.specs.Text.{tallyText}
 use Rattle.tally.proofs.Running.{replies-append, after-append}
 use Rattle.stream.specs.Output.{answersText, told, output}

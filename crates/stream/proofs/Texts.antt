@@ -1,12 +1,12 @@
 -- The text of an answer as the code stores it. Assumes nothing.
 use mathlib.Core.Path.{_≡_, refl}
-use mathlib.Core.List.{List, [], _∷_, append-assoc}
+use mathlib.Core.List.{List, append-assoc}
 use Prim.Native.Nat.{ℕ, _+_, _/_, _%_, _≤_, _<_}
 use native.Mathlib.Numerals.{add-one}
 use native.Mathlib.Omega.{arith}
 use lib.ListN.{length, set}
 use Rattle.ascii.specs.Area.{Put}
-use Rattle.ascii.proofs.Area.{put-size, put-more, put-stores}
+use Rattle.ascii.proofs.Area.{put-more, put-stores}
 use Rattle.answer.specs.declared.record.Answer.{Answer}
 use Rattle.answer.specs.Numbers.{verdictNumber, severityNumber, reasonNumber}
 use Rattle.answer.specs.Answers.{answerNumbers}

@@ -1,14 +1,13 @@
 -- A turn by the tests of the code. Assumes nothing.
 use mathlib.Core.Path.{_≡_, refl, sym, _∙_, ap}
-use mathlib.Core.Bool.{Bool, true, false, _&&_}
+use mathlib.Core.Bool.{true, false, _&&_}
 use mathlib.Core.List.{List, [], _∷_, _++_, append-nil}
-use Prim.Native.Nat.{ℕ, _+_, _≤_, _<_, min}
+use Prim.Native.Nat.{ℕ, _≤_, _<_, min}
 use native.Mathlib.Nat.{zero-add}
 use native.Mathlib.Omega.{arith}
 use lib.Dec.{leb, ltb, eqb}
-use lib.ListN.{length, take, drop, length-append}
-use borrow.Author.Tests.{eqb-true, eqb-false, eq-eqb, ne-eqb, leb-true, ltb-true, ltb-false}
-use Rattle.ascii.specs.Area.{Put}
+use lib.ListN.{length, take, length-append}
+use borrow.Author.Tests.{eqb-true, eqb-false, ne-eqb, leb-true, ltb-true, ltb-false}
 use Rattle.ascii.specs.Pick.{pick}
 use Rattle.ascii.proofs.Tests.{and-true}
 use Rattle.ascii.proofs.Area.{put-nil, put-front, put-size, put-most}
@@ -21,9 +20,8 @@ use Rattle.lines.specs.Inner.{upto}
 use Rattle.lines.proofs.Heads.{take-least}
 use Rattle.lines.proofs.Splits.{by, Open, upto-le, open-take}
 use Rattle.tally.specs.Tally.{fed, replies, after}
-use Rattle.tally.specs.Text.{tallyText, tallyRoom}
 use Rattle.stream.specs.Output.{answersText, told}
-use Rattle.stream.specs.Turn.{fitting, clipped, keptOf, isOver, closingRoom, closes, turnLines, turnCounts, turnWrites, TurnRight}
+use Rattle.stream.specs.Turn.{fitting, keptOf, isOver, closingRoom, closes, turnLines, turnCounts, turnWrites, TurnRight}
 use Rattle.stream.specs.Inner.{StepRight, ClosedRight}
 use Rattle.stream.proofs.Windows.{fitting-some, clipped-open}
 

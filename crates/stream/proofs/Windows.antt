@@ -2,7 +2,7 @@
 use mathlib.Core.Path.{_≡_, refl, sym, _∙_, ap}
 use mathlib.Core.Bool.{Bool, true, false}
 use mathlib.Core.List.{List, [], _∷_, _++_, append-nil}
-use Prim.Native.Nat.{ℕ, suc, _+_, _-_, _*_, _/_, _≤_, _<_, min}
+use Prim.Native.Nat.{ℕ, suc, _+_, _-_, _*_, _/_, _≤_, _<_}
 use native.Mathlib.Nat.{add-comm, zero-add}
 use native.Mathlib.Numerals.{add-one}
 use native.Mathlib.Omega.{arith}
@@ -13,22 +13,20 @@ use borrow.Author.Tests.{le-leb, ltb-true, ltb-false}
 use Rattle.ascii.specs.Area.{Put}
 use Rattle.ascii.specs.Pick.{pick}
 use Rattle.ascii.proofs.Area.{put-none, put-start, put-size, put-more, put-most}
-use Rattle.answer.specs.declared.record.Answer.{Answer}
 use Rattle.answer.specs.Answers.{inTurn}
 use Rattle.answer.specs.Text.{answerText, answerRoom}
 use Rattle.lines.specs.Line.{lineBytes}
-use Rattle.lines.specs.Lines.{linesOf, split, ended, extent, spanned}
+use Rattle.lines.specs.Lines.{linesOf, ended, extent, spanned}
 use Rattle.lines.specs.Inner.{upto}
 use Rattle.lines.proofs.Heads.{drop-take}
-use Rattle.lines.proofs.Splits.{by, Open, upto-le, split-none, ended-line, ended-open, among-line, among-open, lines-open, fronted-alone}
-use Rattle.lines.proofs.Feeding.{First, Through, through-none, through-line, through-within, through-ended, Said, said-none, said-more, said-size, part-tail, none-left, open-left}
+use Rattle.lines.proofs.Splits.{by, Open, upto-le, split-none, ended-line, among-line, among-open, lines-open, fronted-alone}
+use Rattle.lines.proofs.Feeding.{First, Through, through-none, through-line, through-within, through-ended, Said, said-none, said-more, said-size, part-tail, open-left}
 use Rattle.tally.specs.declared.counts.Fed.{Fed}
 use Rattle.tally.specs.Tally.{isFull, fed, replies, after}
 use Rattle.tally.specs.Text.{tallyText, tallyRoom}
 use Rattle.tally.specs.Inner.{leftIn, fedIf}
 use Rattle.tally.proofs.Feeding.{full-left, fed-known}
 use Rattle.tally.proofs.Running.{Running, running-reply, running-line, replies-length}
-use Rattle.stream.specs.Output.{answersText, told}
 use Rattle.stream.specs.Turn.{fitting, clipped, keptOf, closingRoom}
 use Rattle.stream.specs.Inner.{LineRight, FedRight, StepRight, LastRight, ClosedRight}
 

@@ -1,22 +1,20 @@
 -- Adding up counts, and feeding a line. Assumes nothing.
-use mathlib.Core.Path.{_≡_, refl, sym, ap, _∙_}
+use mathlib.Core.Path.{_≡_, refl, sym, _∙_}
 use mathlib.Core.Bool.{Bool, true, false}
-use mathlib.Core.List.{List, [], _∷_, _++_}
-use Prim.Native.Nat.{ℕ, zero, suc, _+_, _-_, _*_, _%_, _≤_, _<_}
+use mathlib.Core.List.{List, [], _∷_}
+use Prim.Native.Nat.{ℕ, zero, suc, _+_, _-_, _%_, _≤_, _<_}
 use native.Mathlib.Numerals.{add-one}
 use native.Mathlib.Omega.{arith}
 use lib.Dec.{leb, eqb}
-use lib.ListN.{length, drop, getD, set, drop-of-length-le}
+use lib.ListN.{length, drop, getD, drop-of-length-le}
 use lib.Seq.{drop-cons}
-use borrow.Author.Tests.{leb-true, leb-false, le-leb, lt-leb, eq-eqb, ne-eqb}
+use borrow.Author.Tests.{leb-true, leb-false, eq-eqb, ne-eqb}
 use Rattle.ascii.specs.Pick.{pick}
 use Rattle.answer.specs.declared.record.Answer.{Answer}
 use Rattle.lines.specs.Line.{answerOf}
-use Rattle.tally.specs.declared.counts.Fed.{Fed}
-use Rattle.tally.specs.Cell.{cells, cellOf}
+use Rattle.tally.specs.Cell.{cellOf}
 use Rattle.tally.specs.Tally.{total, limit, isFull, fullAnswer, oneMore, fed}
 use Rattle.tally.specs.Inner.{leftIn, raised, fedIf, fedIn}
-use Rattle.tally.proofs.Places.{cell-small}
 
 -- ---- the sum
 

@@ -5,12 +5,12 @@ use mathlib.Core.List.{List, [], _∷_, _++_}
 use Prim.Native.Nat.{ℕ, _-_, _<_}
 use native.Mathlib.Omega.{arith}
 use lib.Dec.{eqb}
-use lib.ListN.{length, length-append}
+use lib.ListN.{length}
 use Rattle.answer.specs.declared.record.Answer.{Answer}
 use Rattle.lines.specs.Line.{answerOf}
 use Rattle.tally.specs.declared.counts.Fed.{Fed}
 use Rattle.tally.specs.Cell.{cells, cellOf}
-use Rattle.tally.specs.Tally.{total, limit, isFull, oneMore, fed, replies, after}
+use Rattle.tally.specs.Tally.{isFull, fed, replies, after}
 use Rattle.tally.specs.Inner.{leftIn, fedIf, fedIn}
 use Rattle.tally.proofs.Places.{cell-small}
 use Rattle.tally.proofs.Feeding.{full-left, fed-known, total-more}

@@ -7,9 +7,8 @@ ghost use lib.ListN.{length, take, drop};
 ghost use Rattle.ascii.specs.Area.{Put};
 ghost use Rattle.ascii.specs.Pick.{pick};
 ghost use Rattle.answer.specs.Text.{numeral, field, numbersText};
-ghost use Rattle.rules.specs.Facts.{rules};
 ghost use Rattle.tally.specs.Cell.{cells};
-ghost use Rattle.tally.specs.Text.{linesText, tallyText, tallyRoom};
+ghost use Rattle.tally.specs.Text.{tallyText, tallyRoom};
 
 // The bytes that a tally's text takes at most.
 const ROOM: usize = 770;

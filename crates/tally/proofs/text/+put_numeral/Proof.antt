@@ -1,8 +1,6 @@
 -- The cycle of calls {put_numeral}, a number in decimal: each call is of a tenth of the number.
-use Prim.Native.Nat.{ℕ, _/_, _<_}
-use mathlib.Core.Path.{subst, _∙_}
+use Prim.Native.Nat.{ℕ, _<_}
 use native.Mathlib.Omega.{arith}
-use lib.ListN.{length-set}
 use Rattle.tally.proofs.Texts.{put-digit, digit-fits, put-next}
 use borrow.Author.Needs.{needs}
 use borrow.Fn.Kinds.{In}

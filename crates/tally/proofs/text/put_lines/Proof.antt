@@ -1,7 +1,7 @@
 -- `tally::text::put_lines` stores a line for each rule, and the others.
 use mathlib.Core.Path.{_∙_}
 use native.Mathlib.Omega.{arith}
-use Prim.Native.Nat.{_-_, _≤_}
+use Prim.Native.Nat.{_-_}
 use Rattle.tally.proofs.Texts.{Laying, number-at, laying-none, laying-size, laying-line, laying-others, laying-line-room, laying-room}
 use borrow.Author.Needs.{needs}
 use Rattle.tally.proofs.text.put_lines.Statement.{statement}
