@@ -1,21 +1,21 @@
--- Every answer to a line has one cell, and two have the same exactly where rule and verdict are the same. Assumes nothing.
+-- Every answer to a line has one cell, two have the same exactly where rule and verdict are the same, and every cell is an answer's. Assumes nothing.
 use mathlib.Core.Path.{_≡_, refl, sym, ap, _∙_}
 use mathlib.Core.Bool.{Bool, true, false, _&&_}
 use mathlib.Core.List.{List, [], _∷_}
-use Prim.Native.Nat.{ℕ, _+_, _-_, _*_, _/_, _%_, _<_}
+use Prim.Native.Nat.{ℕ, zero, suc, _+_, _-_, _*_, _/_, _%_, _<_}
 use native.Mathlib.Omega.{arith}
 use lib.Dec.{eqb, ltb}
 use lib.ListN.{getD, take}
-use borrow.Author.Tests.{eqb-true, eq-eqb, lt-ltb}
+use borrow.Author.Tests.{eqb-true, eqb-false, eq-eqb, lt-ltb, ltb-true, ltb-false}
 use Rattle.ascii.specs.Pick.{pick}
-use Rattle.ascii.proofs.Tests.{both-ways, and-true, true-and}
+use Rattle.ascii.proofs.Tests.{both-ways, and-true, true-and, below-at}
 use Rattle.answer.specs.declared.record.Answer.{Answer}
 use Rattle.answer.specs.declared.severity.Severity.the-variants.{NoSeverity}
-use Rattle.answer.specs.declared.reason.Reason.the-variants.{Line}
+use Rattle.answer.specs.declared.reason.Reason.the-variants.{NoReason, Line}
 use Rattle.answer.specs.declared.verdict.Verdict.{Verdict}
 use Rattle.answer.specs.declared.verdict.Verdict.the-variants.{NoRule as NoVerdict, Accepted, Refused, Unread}
 use Rattle.answer.specs.Numbers.{verdictNumber}
-use Rattle.answer.specs.Answers.{refused}
+use Rattle.answer.specs.Answers.{noRule, refused}
 use Rattle.rules.specs.declared.rule.Rule.{Rule}
 use Rattle.rules.specs.declared.rule.Rule.the-variants.{R40}
 use Rattle.rules.specs.declared.choice.Chosen.{Chosen}
@@ -26,7 +26,7 @@ use Rattle.rules.proofs.Every.{number-back, at-index, index-small}
 use Rattle.checks.specs.Check.{onChosen, checkOf}
 use Rattle.checks.proofs.Laws.{by-number, by-judged}
 use Rattle.lines.specs.Line.{headOk, termOf, lineContent, answerOf}
-use Rattle.tally.specs.Cell.{otherCell, cellOf, Proper, ruled, unruled, before}
+use Rattle.tally.specs.Cell.{cells, otherCell, cellOf, Proper, ruled, unruled, before}
 use Rattle.tally.proofs.Places.{verdict-few}
 
 -- ---- the answer to a line
@@ -119,3 +119,48 @@ same-cell a b p q =
     (λ e.
     let s = and-true (eqb (a .rule) (b .rule)) (eqb (verdictNumber (a .verdict)) (verdictNumber (b .verdict))) e in
     eq-eqb _ _ (shared a b (eqb-true _ _ (s .0)) (same-verdict (a .verdict) (b .verdict) (eqb-true _ _ (s .1)))))
+
+-- ---- every cell
+
+-- a proper answer whose cell it is
+pub record Owner (k : ℕ) : Type 0 where
+  pub answer : Answer
+  pub proper : Proper answer
+  pub here : cellOf answer ≡ k
+
+-- the rule at an index has it
+index-at : (i : ℕ) → i < 17 → facts (getD rules i R40) .index ≡ i
+index-at i h = eqb-true _ _ (below-at 17 (λ i. eqb (facts (getD rules i R40) .index) i) refl i h)
+
+owned : (i : ℕ) (v : Verdict) → i < 17 → 0 < verdictNumber v → Owner (3 * i + (verdictNumber v - 1))
+owned i v h n =
+    let r = getD rules i R40 in
+    let a : Answer = record { verdict = v; rule = facts r .number; severity = NoSeverity; reason = NoReason } in
+    record { answer = a; proper = ruled r refl n; here = cell-ruled a r refl ∙ rw (index-at i h) }
+
+by-rule : (k p : ℕ) → k < 51 → p ≡ k % 3 → Owner k
+by-rule k zero h e = rw e′ (owned (k / 3) Accepted (omega arith) (omega arith))
+  where
+    e′ : k ≡ 3 * (k / 3) + 0
+    e′ = omega (arith, e)
+by-rule k (suc zero) h e = rw e′ (owned (k / 3) Refused (omega arith) (omega arith))
+  where
+    e′ : k ≡ 3 * (k / 3) + 1
+    e′ = omega (arith, e)
+by-rule k (suc (suc p)) h e = rw e′ (owned (k / 3) Unread (omega arith) (omega arith))
+  where
+    e′ : k ≡ 3 * (k / 3) + 2
+    e′ = omega (arith, e)
+
+-- Each of the 53 counts is of one rule and one verdict.
+pub every-cell : (k : ℕ) → k < cells → Owner k
+every-cell k h = at-tests (ltb k 51) (eqb k 51) refl refl
+  where
+    at-tests : (t u : Bool) → ltb k 51 ≡ t → eqb k 51 ≡ u → Owner k
+    at-tests true u e f = by-rule k (k % 3) (ltb-true k 51 e) refl
+    at-tests false true e f =
+        record { answer = noRule; proper = unruled refl refl; here = cell-other noRule refl ∙ sym (eqb-true k 51 f) }
+    at-tests false false e f =
+        let last : k ≡ 52 = omega (arith, h, ltb-false k 51 e, eqb-false k 51 f) in
+        let a = refused 0 NoSeverity Line in
+        record { answer = a; proper = before refl refl; here = cell-other a refl ∙ sym last }
