@@ -1,8 +1,8 @@
 // Answers each line of standard input by a line on standard output, and then says how many of them each rule accepted, refused and let through.
 ghost use Prim.Native.Nat.{_<_, _≤_};
 ghost use lib.ListN.{length};
-ghost use Rattle.answer.specs.Text.{answerRoom};
 ghost use Rattle.lines.specs.Line.{lineBytes};
+ghost use Rattle.stream.specs.Turn.{closingRoom};
 use libc::STDIN_FILENO;
 use libc::STDOUT_FILENO;
 
@@ -21,11 +21,11 @@ fn write(text: &[u8]) -> bool {
     is_written
 }
 
-// One turn: reads behind what is kept, answers, counts, and writes. Where reading or writing fails, the counts are never written.
+// One turn: reads behind what is kept, answers, counts, and writes. Where reading fails, or an answer can't be written, no counts are written.
 fn turn(buf: &mut [u8], kept: usize, out: &mut [u8], counts: &mut [u32; 53]) -> Next
     requires { ⌜ kept < length (now buf) ⌝ }
     requires { ⌜ lineBytes < length (now buf) ⌝ }
-    requires { ⌜ answerRoom ≤ length (now out) ⌝ }
+    requires { ⌜ closingRoom ≤ length (now out) ⌝ }
     ensures { λ r. ⌜ r .kept < length (now (buf .exit)) ⌝ }
 {
     let got = libc::read(STDIN_FILENO, &mut buf[kept..]);
@@ -45,7 +45,7 @@ fn turn(buf: &mut [u8], kept: usize, out: &mut [u8], counts: &mut [u32; 53]) -> 
 
 fn answer_all(buf: &mut [u8], out: &mut [u8], counts: &mut [u32; 53])
     requires { ⌜ lineBytes < length (now buf) ⌝ }
-    requires { ⌜ answerRoom ≤ length (now out) ⌝ }
+    requires { ⌜ closingRoom ≤ length (now out) ⌝ }
 {
     let mut kept = 0;
     let mut turns = u64::MAX;

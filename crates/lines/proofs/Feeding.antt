@@ -149,11 +149,16 @@ end-left left used c s h = rw (drop-of-length-le s h, split-none c) (take-all le
 
 -- ---- an answer for each
 
-pub in-turn-more : (says : Answer → List ℕ) (xs : List Answer) (a : Answer) → inTurn says (xs ++ a ∷ []) ≡ inTurn says xs ++ says a
+pub in-turn-append : (says : Answer → List ℕ) (xs ys : List Answer) → inTurn says (xs ++ ys) ≡ inTurn says xs ++ inTurn says ys
 unfolding inTurn
-in-turn-more says [] a = append-nil (says a)
-in-turn-more says (b ∷ xs) a =
-    ap (λ (l : List ℕ). says b ++ l) (in-turn-more says xs a) ∙ sym (append-assoc (says b) (inTurn says xs) (says a))
+in-turn-append says [] ys = refl
+in-turn-append says (a ∷ xs) ys =
+    ap (λ (l : List ℕ). says a ++ l) (in-turn-append says xs ys)
+    ∙ sym (append-assoc (says a) (inTurn says xs) (inTurn says ys))
+
+in-turn-more : (says : Answer → List ℕ) (xs : List Answer) (a : Answer) → inTurn says (xs ++ a ∷ []) ≡ inTurn says xs ++ says a
+unfolding inTurn
+in-turn-more says xs a = in-turn-append says xs (a ∷ []) ∙ ap (λ (l : List ℕ). inTurn says xs ++ l) (append-nil (says a))
 
 -- what is said of answers, each in so many bytes or numbers as `each`, stands in an area
 abbrev pub Said : (Answer → List ℕ) → ℕ → List ℕ → List Answer → ℕ → List ℕ → Type 0
@@ -170,7 +175,7 @@ said-more says each xs a h p q =
     ap (λ (n : ℕ). each * n) (length-append xs (a ∷ []) ∙ add-one (length xs)) ∙ mul-suc each (length xs) in
     rw (in-turn-more says xs a, few) (put-more p q (omega (arith, p .few)))
 
--- where an area has room for so many answers, and fewer are said, it has room for another
+-- the area keeps its length
 pub said-size : (says : Answer → List ℕ) (each : ℕ) {o new : List ℕ} (xs : List Answer) {put : ℕ}
     → each * length xs ≤ length o → Said says each o xs put new → length new ≡ length o
 said-size says each xs h p = put-size p (omega (arith, p .few))

@@ -7,7 +7,7 @@ use native.Mathlib.Nat.{suc-add}
 use native.Mathlib.Numerals.{add-one}
 use native.Mathlib.Omega.{arith}
 use lib.Dec.{eqb}
-use lib.ListN.{length, take, drop, getD, length-drop}
+use lib.ListN.{length, take, drop, getD}
 use lib.Seq.{drop-cons}
 use borrow.Author.Tests.{eq-eqb, ne-eqb, eqb-false}
 use Rattle.ascii.proofs.Tests.{false-true}
@@ -129,9 +129,6 @@ upto-le [] = omega (arith, upto-none)
 upto-le (b ∷ s) =
     by (eqb b 10) (λ e. omega (arith, upto-newline b s e))
     (λ e. omega (arith, upto-byte b s e, upto-le s))
-
-pub open-end : (s : List ℕ) (i : ℕ) → length s ≤ i → Open (drop i s)
-open-end s i h = upto-end s i h ∙ sym (omega (arith, length-drop i s))
 
 -- ---- a whole line
 

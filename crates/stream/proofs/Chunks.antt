@@ -12,13 +12,12 @@ use Rattle.ascii.specs.Area.{joined}
 use Rattle.ascii.specs.Pick.{pick}
 use Rattle.ascii.specs.Class.{among}
 use Rattle.ascii.specs.Written.{newline}
-use Rattle.answer.specs.declared.record.Answer.{Answer}
-use Rattle.answer.specs.Answers.{inTurn}
 use Rattle.answer.specs.Text.{answerText, answerRoom}
 use Rattle.lines.specs.Line.{lineBytes, answerOf}
 use Rattle.lines.specs.Lines.{linesOf, ended, extent, spanned}
 use Rattle.lines.specs.Inner.{upto}
 use Rattle.lines.proofs.Heads.{answer-cut}
+use Rattle.lines.proofs.Feeding.{in-turn-append}
 use Rattle.lines.proofs.Splits.{by, Open, upto-le, split-line, ended-line, ended-open, open-take, fronted, lines-open, fronted-first, fronted-alone}
 use Rattle.tally.specs.Tally.{fresh, fed, replies, after}
 use Rattle.tally.specs.Text.{tallyText}
@@ -30,16 +29,9 @@ use Rattle.stream.proofs.Turns.{over-none, closes-writes, next-writes, 
 
 -- ---- lines that are told one after the other
 
-in-turn-append : (xs ys : List Answer) → inTurn answerText (xs ++ ys) ≡ inTurn answerText xs ++ inTurn answerText ys
-unfolding inTurn
-in-turn-append [] ys = refl
-in-turn-append (a ∷ xs) ys =
-    ap (λ (l : List ℕ). answerText a ++ l) (in-turn-append xs ys)
-    ∙ sym (append-assoc (answerText a) (inTurn answerText xs) (inTurn answerText ys))
-
 told-append : (counts : List ℕ) (ls ms : List (List ℕ)) → told counts (ls ++ ms) ≡ answersText counts ls ++ told (after counts ls) ms
 told-append counts ls ms =
-    rw (replies-append counts ls ms, in-turn-append (replies counts ls) (replies (after counts ls) ms), after-append counts ls ms)
+    rw (replies-append counts ls ms, in-turn-append answerText (replies counts ls) (replies (after counts ls) ms), after-append counts ls ms)
     (append-assoc (answersText counts ls) (answersText (after counts ls) ms) (tallyText (after (after counts ls) ms)))
 
 -- ---- a line that is cut

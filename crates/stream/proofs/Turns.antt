@@ -20,6 +20,7 @@ use Rattle.lines.specs.Inner.{upto}
 use Rattle.lines.proofs.Heads.{take-least}
 use Rattle.lines.proofs.Splits.{by, Open, upto-le, open-take}
 use Rattle.tally.specs.Tally.{fed, replies, after}
+use Rattle.tally.proofs.Running.{after-none}
 use Rattle.stream.specs.Output.{answersText, told}
 use Rattle.stream.specs.Turn.{fitting, keptOf, isOver, closingRoom, closes, turnLines, turnCounts, turnWrites, TurnRight}
 use Rattle.stream.specs.Inner.{StepRight, ClosedRight}
@@ -37,10 +38,6 @@ text-some a = some (numeral _) _ _
 pub answers-none : (counts : List ℕ) → answersText counts [] ≡ []
 unfolding inTurn replies
 answers-none counts = refl
-
-pub after-none : (counts : List ℕ) → after counts [] ≡ counts
-unfolding after
-after-none counts = refl
 
 none-tested : (counts : List ℕ) (ls : List (List ℕ)) → eqb (length (answersText counts ls)) 0 ≡ eqb (length ls) 0
 unfolding inTurn replies
@@ -149,13 +146,13 @@ module _ (s b b′ o o′ counts counts′ : List ℕ) (fresh kept put : ℕ) (s
         let k = kept-here ∙ kept-none (length o) s big none-fits in
         (rw k (open-take lineBytes s (nothing-open (length o) s big none-fits)), omega (arith, room, same-room))
 
-    pub turn-over : (o″ counts″ : List ℕ) (end : ℕ) → ClosedRight closingRoom (take kept b′) counts′ counts″ o′ o″ end
+    pub turn-over : (o″ counts″ : List ℕ) (end : ℕ) → ClosedRight (take kept b′) counts′ counts″ o′ o″ end
         → TurnRight s fresh b b′ o o″ counts counts″ kept end (eqb fresh 0 && eqb put 0)
     unfolding turnCounts
     turn-over o″ counts″ end p =
         let same : o′ ≡ o = st .written .now ∙ rw (none-fits, answers-none counts) (put-nil o 0) in
         let before : counts′ ≡ counts = st .tallied ∙ rw none-fits (after-none counts) in
-        let q : ClosedRight closingRoom (keptOf (length o) s) counts counts″ o o″ end = rw (same, before, kept-here) at p in
+        let q : ClosedRight (keptOf (length o) s) counts counts″ o o″ end = rw (same, before, kept-here) at p in
         record {
           writes = rw (closes-writes (length o) fresh s counts ends-here) (put-most (q .written) (omega (arith, q .written .few, closes-room (length o) fresh s ends-here)));
           tallies = rw (closes-lines (length o) fresh s ends-here) (q .tallied);

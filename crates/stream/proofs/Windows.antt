@@ -1,12 +1,12 @@
 -- One step over a window, and the end: what is written, counted and kept. Assumes nothing.
 use mathlib.Core.Path.{_≡_, refl, sym, _∙_, ap}
-use mathlib.Core.Bool.{Bool, true, false}
+use mathlib.Core.Bool.{true, false}
 use mathlib.Core.List.{List, [], _∷_, _++_, append-nil}
 use Prim.Native.Nat.{ℕ, suc, _+_, _-_, _*_, _/_, _≤_, _<_}
 use native.Mathlib.Nat.{add-comm, zero-add}
 use native.Mathlib.Numerals.{add-one}
 use native.Mathlib.Omega.{arith}
-use lib.Dec.{leb, ltb, eqb}
+use lib.Dec.{leb, ltb}
 use lib.ListN.{length, take, drop, getD, set, length-take, length-drop}
 use lib.Seq.{take-all, take-take, length-take-le, getD-append-add, getD-drop, paste-suc}
 use borrow.Author.Tests.{le-leb, ltb-true, ltb-false}
@@ -22,10 +22,10 @@ use Rattle.lines.proofs.Heads.{drop-take}
 use Rattle.lines.proofs.Splits.{by, Open, upto-le, split-none, ended-line, among-line, among-open, lines-open, fronted-alone}
 use Rattle.lines.proofs.Feeding.{First, Through, through-none, through-line, through-within, through-ended, Said, said-none, said-more, said-size, part-tail, open-left}
 use Rattle.tally.specs.declared.counts.Fed.{Fed}
-use Rattle.tally.specs.Tally.{isFull, fed, replies, after}
+use Rattle.tally.specs.Tally.{fed, replies, after}
 use Rattle.tally.specs.Text.{tallyText, tallyRoom}
-use Rattle.tally.specs.Inner.{leftIn, fedIf}
-use Rattle.tally.proofs.Feeding.{full-left, fed-known}
+use Rattle.tally.specs.Inner.{leftIn}
+use Rattle.tally.proofs.Feeding.{fed-by-left}
 use Rattle.tally.proofs.Running.{Running, running-reply, running-line, replies-length}
 use Rattle.stream.specs.Turn.{fitting, clipped, keptOf, closingRoom}
 use Rattle.stream.specs.Inner.{LineRight, FedRight, StepRight, LastRight, ClosedRight}
@@ -200,24 +200,23 @@ lines-empty : (s : List ℕ) → length s ≡ 0 → linesOf s ≡ []
 lines-empty [] e = split-none true
 lines-empty (b ∷ s) e = absurd (omega arith)
 
-pub last-none : (s counts o : List ℕ) → length s ≡ 0 → LastRight answerRoom s counts counts o o 0
+pub last-none : (s counts o : List ℕ) → length s ≡ 0 → LastRight s counts counts o o 0
 unfolding replies after inTurn
 last-none s counts o e =
     record { written = rw (lines-empty s e) (put-none answerRoom o 0); tallied = rw (lines-empty s e) }
 
 pub last-line : (s counts o : List ℕ) {counts′ o′ : List ℕ} {left put : ℕ} → Open s → (length s ≡ 0 → ⊥)
-    → left ≡ leftIn counts → LineRight left s counts counts′ o o′ 0 put → LastRight answerRoom s counts counts′ o o′ put
+    → left ≡ leftIn counts → LineRight left s counts counts′ o o′ 0 put → LastRight s counts counts′ o o′ put
 unfolding replies after inTurn
 last-line s counts o {left = left} op n el p =
-    let k : eqb left 0 ≡ isFull counts = ap (λ (i : ℕ). eqb i 0) el ∙ full-left counts in
-    let e = p .fed ∙ ap (λ (t : Bool). fedIf t counts s) k ∙ fed-known counts s in
+    let e = p .fed ∙ fed-by-left counts s left el in
     record {
       written = rw (lines-last s op n, ← e, append-nil (answerText (p .answer))) (p .written);
       tallied = rw (lines-last s op n) (ap (λ (f : Fed). f .counts) e);
     }
 
-pub close-right : (s counts counts′ : List ℕ) {o o′ o″ : List ℕ} {put end : ℕ} → closingRoom ≤ length o → LastRight answerRoom s counts counts′ o o′ put
-    → Put tallyRoom o′ put (pick (leb (put + tallyRoom) (length o′)) (tallyText counts′) []) end o″ → ClosedRight closingRoom s counts counts′ o o″ end
+pub close-right : (s counts counts′ : List ℕ) {o o′ o″ : List ℕ} {put end : ℕ} → closingRoom ≤ length o → LastRight s counts counts′ o o′ put
+    → Put tallyRoom o′ put (pick (leb (put + tallyRoom) (length o′)) (tallyText counts′) []) end o″ → ClosedRight s counts counts′ o o″ end
 unfolding pick
 close-right s counts counts′ {o} {o′} {put = put} h l p =
     let room : put + tallyRoom ≤ length o′ = omega (arith, l .written .ends, l .written .few, put-size (l .written) (omega (arith, l .written .few))) in

@@ -12,7 +12,7 @@ use Rattle.lines.specs.Lines.{linesOf, spanned}
 use Rattle.tally.specs.Tally.{after}
 use Rattle.tally.specs.Inner.{fedIf, fedIn}
 use Rattle.stream.specs.Output.{answersText, told}
-use Rattle.stream.specs.Turn.{fitting, keptOf}
+use Rattle.stream.specs.Turn.{fitting, keptOf, closingRoom}
 
 -- a line is fed to a tally that counts `more` lines, and its answer is written from `at` on
 pub record LineRight (more : ℕ) (line counts counts′ out out′ : List ℕ) (at end : ℕ) : Type 0 where
@@ -33,12 +33,12 @@ pub record StepRight (s buf buf′ out out′ counts counts′ : List ℕ) (kept
   pub held : Put (length buf) buf 0 (keptOf (length out) s) kept buf′
   pub moves : lineBytes < length buf → answerRoom ≤ length out → kept < length buf
 
--- the lines of s are answered, at most `most` bytes
-pub record LastRight (most : ℕ) (s counts counts′ out out′ : List ℕ) (put : ℕ) : Type 0 where
-  pub written : Put most out 0 (answersText counts (linesOf s)) put out′
+-- the lines of s are answered
+pub record LastRight (s counts counts′ out out′ : List ℕ) (put : ℕ) : Type 0 where
+  pub written : Put answerRoom out 0 (answersText counts (linesOf s)) put out′
   pub tallied : counts′ ≡ after counts (linesOf s)
 
 -- and then the tally
-pub record ClosedRight (most : ℕ) (s counts counts′ out out′ : List ℕ) (put : ℕ) : Type 0 where
-  pub written : Put most out 0 (told counts (linesOf s)) put out′
+pub record ClosedRight (s counts counts′ out out′ : List ℕ) (put : ℕ) : Type 0 where
+  pub written : Put closingRoom out 0 (told counts (linesOf s)) put out′
   pub tallied : counts′ ≡ after counts (linesOf s)

@@ -28,9 +28,9 @@ clipped rest = pick (among newline rest) rest (take lineBytes rest)
 unfoldable pub keptOf : ℕ → List ℕ → List ℕ
 keptOf room s = clipped (drop (spanned s (fitting room s)) s)
 
--- `fresh` bytes of s were just read; none means that the input has ended. Where no whole line is answered then, the turn is over
+-- `got` bytes of s were just read; none means that the input has ended. Where no whole line is answered then, the turn is over
 unfoldable pub isOver : ℕ → ℕ → List ℕ → Bool
-isOver room fresh s = eqb fresh 0 && eqb (length (fitting room s)) 0
+isOver room got s = eqb got 0 && eqb (length (fitting room s)) 0
 
 -- the bytes that the end takes at most: an answer, and the text of the tally
 abbrev pub closingRoom : ℕ
@@ -38,28 +38,28 @@ closingRoom = answerRoom + tallyRoom
 
 -- the turn that is over writes the end, where there is room
 unfoldable pub closes : ℕ → ℕ → List ℕ → Bool
-closes room fresh s = isOver room fresh s && leb closingRoom room
+closes room got s = isOver room got s && leb closingRoom room
 
 -- the lines that a turn answers: whole lines, and in the end the last one, which no newline ends
 unfoldable pub turnLines : ℕ → ℕ → List ℕ → List (List ℕ)
-turnLines room fresh s = pick (closes room fresh s) (linesOf (keptOf room s)) (fitting room s)
+turnLines room got s = pick (closes room got s) (linesOf (keptOf room s)) (fitting room s)
 
 unfoldable pub turnCounts : List ℕ → ℕ → ℕ → List ℕ → List ℕ
-turnCounts counts room fresh s = after counts (turnLines room fresh s)
+turnCounts counts room got s = after counts (turnLines room got s)
 
 -- what a turn writes: the answers to its lines, and in the end the text of the tally
 unfoldable pub turnWrites : List ℕ → ℕ → ℕ → List ℕ → List ℕ
-turnWrites counts room fresh s =
-    answersText counts (turnLines room fresh s)
-    ++ pick (closes room fresh s) (tallyText (turnCounts counts room fresh s)) []
+turnWrites counts room got s =
+    answersText counts (turnLines room got s)
+    ++ pick (closes room got s) (tallyText (turnCounts counts room got s)) []
 
 -- a buffer, an output area and counts have become buf′, out′ and counts′: `kept` bytes are kept at the start of the buffer, `put` bytes are written in
 -- the output area
-pub record TurnRight (s : List ℕ) (fresh : ℕ) (buf buf′ out out′ counts counts′ : List ℕ) (kept put : ℕ) (over : Bool) : Type 0 where
-  pub writes : Put (length out) out 0 (turnWrites counts (length out) fresh s) put out′
-  pub tallies : counts′ ≡ turnCounts counts (length out) fresh s
+pub record TurnRight (s : List ℕ) (got : ℕ) (buf buf′ out out′ counts counts′ : List ℕ) (kept put : ℕ) (over : Bool) : Type 0 where
+  pub writes : Put (length out) out 0 (turnWrites counts (length out) got s) put out′
+  pub tallies : counts′ ≡ turnCounts counts (length out) got s
   pub keeps : Put (length buf) buf 0 (keptOf (length out) s) kept buf′
-  pub ends : over ≡ isOver (length out) fresh s
+  pub ends : over ≡ isOver (length out) got s
   -- a buffer that holds more than is read of a line has room for more input afterwards, where an answer fits
   pub moves : lineBytes < length buf → answerRoom ≤ length out → kept < length buf
 

@@ -26,7 +26,8 @@ pub struct Turned {
 
 // One turn: buf[..kept + fresh] is input that is not answered yet, of which `fresh` bytes were just read; none means that the input
 // has ended. Stores the answers to its whole lines at the start of out, counts them, and moves what is kept of the rest to the start of buf. Where the
-// input has ended and no whole line is answered, it answers the last line, which no newline ends, stores the text of the tally, and is over.
+// input has ended and no whole line is answered, it is over, and where out has room for
+// both it answers the last line, which no newline ends, and stores the text of the tally.
 pub fn turn(
     buf: &mut [u8],
     kept: usize,

@@ -17,6 +17,7 @@ fn digit(d: u32) -> u8
     (48 + d) as u8
 }
 
+// A number of an answer, of at most three digits: a tally's are written by `tally::put_text`, digit by digit.
 fn put_number(out: &mut [u8], at: usize, n: u32) -> usize
     requires { ⌜ at + 3 ≤ length (now out) ⌝ }
     requires { ⌜ n < 1000 ⌝ }

@@ -95,7 +95,7 @@ pub(crate) fn step(buf: &mut [u8], n: usize, out: &mut [u8], counts: &mut [u32; 
 fn last(s: &[u8], out: &mut [u8], counts: &mut [u32; 53]) -> usize
     requires { ⌜ upto (now s) ≡ length (now s) ⌝ }
     requires { ⌜ answerRoom ≤ length (now out) ⌝ }
-    ensures { λ r. ⌜ LastRight answerRoom (now (s .entry)) (now (counts .entry)) (now (counts .exit)) (now (out .entry)) (now (out .exit)) r ⌝ }
+    ensures { λ r. ⌜ LastRight (now (s .entry)) (now (counts .entry)) (now (counts .exit)) (now (out .entry)) (now (out .exit)) r ⌝ }
 {
     if s.len() == 0 {
         return 0;
@@ -108,7 +108,7 @@ fn last(s: &[u8], out: &mut [u8], counts: &mut [u32; 53]) -> usize
 pub(crate) fn close(s: &[u8], out: &mut [u8], counts: &mut [u32; 53]) -> usize
     requires { ⌜ upto (now s) ≡ length (now s) ⌝ }
     requires { ⌜ closingRoom ≤ length (now out) ⌝ }
-    ensures { λ r. ⌜ ClosedRight closingRoom (now (s .entry)) (now (counts .entry)) (now (counts .exit)) (now (out .entry)) (now (out .exit)) r ⌝ }
+    ensures { λ r. ⌜ ClosedRight (now (s .entry)) (now (counts .entry)) (now (counts .exit)) (now (out .entry)) (now (out .exit)) r ⌝ }
 {
     let put = last(s, out, counts);
     put_text(counts, out, put)

@@ -1,6 +1,6 @@
 -- Every answer to a line has one cell, two have the same exactly where rule and verdict are the same, and every cell is an answer's. Assumes nothing.
 use mathlib.Core.Path.{_≡_, refl, sym, ap, _∙_}
-use mathlib.Core.Bool.{Bool, true, false, _&&_}
+use mathlib.Core.Bool.{Bool, true, false}
 use mathlib.Core.List.{List, [], _∷_}
 use Prim.Native.Nat.{ℕ, zero, suc, _+_, _-_, _*_, _/_, _%_, _<_}
 use native.Mathlib.Omega.{arith}
@@ -26,8 +26,9 @@ use Rattle.rules.proofs.Every.{number-back, at-index, index-small}
 use Rattle.checks.specs.Check.{onChosen, checkOf}
 use Rattle.checks.proofs.Laws.{by-number, by-judged}
 use Rattle.lines.specs.Line.{headOk, termOf, lineContent, answerOf}
-use Rattle.tally.specs.Cell.{cells, otherCell, cellOf, Proper, ruled, unruled, before}
-use Rattle.tally.proofs.Places.{verdict-few}
+use Rattle.tally.specs.Cell.{tallySize, otherCell, cellOf, Proper, ruled, unruled, before}
+use Rattle.tally.specs.Meaning.{ruleAt, verdictAt, isOf}
+use Rattle.tally.proofs.Places.{verdict-few, cell-small}
 
 -- ---- the answer to a line
 
@@ -50,17 +51,11 @@ line-proper l =
 
 -- ---- a cell leads back to rule and verdict
 
-abbrev ruleAt : ℕ → ℕ
-ruleAt k = pick (ltb k 51) (facts (getD rules (k / 3) R40) .number) 0
-
-abbrev verdictAt : ℕ → ℕ
-verdictAt k = pick (ltb k 51) (k % 3 + 1) (pick (eqb k 51) 0 2)
-
-abbrev Back : Answer → ℕ → Type 0
+abbrev pub Back : Answer → ℕ → Type 0
 Back a k = (a .rule ≡ ruleAt k) × (verdictNumber (a .verdict) ≡ verdictAt k)
 
 ruled-back : (a : Answer) (r : Rule) (k : ℕ) → a .rule ≡ facts r .number → 0 < verdictNumber (a .verdict) → k ≡ 3 * facts r .index + (verdictNumber (a .verdict) - 1) → Back a k
-unfolding pick
+unfolding ruleAt verdictAt pick
 ruled-back a r k e h ek =
     let small : k < 51 = omega (arith, index-small r, verdict-few (a .verdict)) in
     let i : k / 3 ≡ facts r .index = omega (arith, verdict-few (a .verdict)) in
@@ -75,8 +70,8 @@ cell-other : (a : Answer) → a .rule ≡ 0 → cellOf a ≡ otherCell (a .verdi
 unfolding cellOf ruleNumbered pick
 cell-other a e = rw e
 
-back : (a : Answer) → Proper a → Back a (cellOf a)
-unfolding pick
+pub back : (a : Answer) → Proper a → Back a (cellOf a)
+unfolding ruleAt verdictAt pick
 back a (ruled r e h) = ruled-back a r (cellOf a) e h (cell-ruled a r e)
 back a (unruled e v) = rw (cell-other a e, v) (e, refl)
 back a (before e v) = rw (cell-other a e, v) (e, refl)
@@ -106,19 +101,19 @@ pub shared : (a b : Answer) → a .rule ≡ b .rule → a .verdict ≡ b .verdic
 unfolding cellOf
 shared a b e f = rw (e, f)
 
--- whether an answer has a rule and a verdict
-abbrev pub isOf : ℕ → Verdict → Answer → Bool
-isOf rule verdict a = eqb (a .rule) rule && eqb (verdictNumber (a .verdict)) (verdictNumber verdict)
-
-pub same-cell : (a b : Answer) → Proper a → Proper b → eqb (cellOf a) (cellOf b) ≡ isOf (b .rule) (b .verdict) a
+pub same-cell : (a b : Answer) → Proper a → Proper b → eqb (cellOf a) (cellOf b) ≡ isOf (b .rule) (verdictNumber (b .verdict)) a
 same-cell a b p q =
-    both-ways (eqb (cellOf a) (cellOf b)) (isOf (b .rule) (b .verdict) a)
+    both-ways (eqb (cellOf a) (cellOf b)) (isOf (b .rule) (verdictNumber (b .verdict)) a)
     (λ e.
     let s = shares a b p q (eqb-true _ _ e) in
     true-and _ _ (eq-eqb _ _ (s .0)) (eq-eqb _ _ (ap verdictNumber (s .1))))
     (λ e.
     let s = and-true (eqb (a .rule) (b .rule)) (eqb (verdictNumber (a .verdict)) (verdictNumber (b .verdict))) e in
     eq-eqb _ _ (shared a b (eqb-true _ _ (s .0)) (same-verdict (a .verdict) (b .verdict) (eqb-true _ _ (s .1)))))
+
+-- Every line's answer has a cell.
+pub line-cell : (l : List ℕ) → cellOf (answerOf l) < tallySize
+line-cell l = cell-small (answerOf l)
 
 -- ---- every cell
 
@@ -152,15 +147,23 @@ by-rule k (suc (suc p)) h e = rw e′ (owned (k / 3) Unread (omega arith) (omega
     e′ : k ≡ 3 * (k / 3) + 2
     e′ = omega (arith, e)
 
+zero-verdict : otherCell NoVerdict ≡ 51
+unfolding pick
+zero-verdict = refl
+
+two-verdict : otherCell Refused ≡ 52
+unfolding pick
+two-verdict = refl
+
 -- Each of the 53 counts is of one rule and one verdict.
-pub every-cell : (k : ℕ) → k < cells → Owner k
+pub every-cell : (k : ℕ) → k < tallySize → Owner k
 every-cell k h = at-tests (ltb k 51) (eqb k 51) refl refl
   where
     at-tests : (t u : Bool) → ltb k 51 ≡ t → eqb k 51 ≡ u → Owner k
     at-tests true u e f = by-rule k (k % 3) (ltb-true k 51 e) refl
     at-tests false true e f =
-        record { answer = noRule; proper = unruled refl refl; here = cell-other noRule refl ∙ sym (eqb-true k 51 f) }
+        record { answer = noRule; proper = unruled refl refl; here = cell-other noRule refl ∙ zero-verdict ∙ sym (eqb-true k 51 f) }
     at-tests false false e f =
         let last : k ≡ 52 = omega (arith, h, ltb-false k 51 e, eqb-false k 51 f) in
         let a = refused 0 NoSeverity Line in
-        record { answer = a; proper = before refl refl; here = cell-other a refl ∙ sym last }
+        record { answer = a; proper = before refl refl; here = cell-other a refl ∙ two-verdict ∙ sym last }

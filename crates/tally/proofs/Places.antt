@@ -15,7 +15,7 @@ use Rattle.rules.specs.declared.choice.Chosen.{Chosen}
 use Rattle.rules.specs.declared.choice.Chosen.the-variants.{By, NoRule, NoTerm}
 use Rattle.rules.specs.Choice.{ruleNumbered}
 use Rattle.rules.proofs.Every.{index-small, number-back}
-use Rattle.tally.specs.Cell.{cells, otherCell, cellBy, cellOf, Proper, ruled, unruled, before}
+use Rattle.tally.specs.Cell.{tallySize, otherCell, cellBy, cellOf, Proper, ruled, unruled, before}
 use Rattle.tally.specs.Inner.{firstBy}
 
 pub verdict-few : (v : Verdict) → verdictNumber v < 4
@@ -24,24 +24,25 @@ verdict-few Accepted = omega arith
 verdict-few Refused = omega arith
 verdict-few Unread = omega arith
 
-other-small : (v : Verdict) → otherCell v < cells
+other-small : (v : Verdict) → otherCell v < tallySize
+unfolding pick
 other-small NoVerdict = omega arith
 other-small Accepted = omega arith
 other-small Refused = omega arith
 other-small Unread = omega arith
 
-pub by-small : (x : Chosen) (v : Verdict) → cellBy x v < cells
+pub by-small : (x : Chosen) (v : Verdict) → cellBy x v < tallySize
 by-small (By r) v = omega (arith, index-small r, verdict-few v)
 by-small NoRule v = other-small v
 by-small NoTerm v = other-small v
 
-pub cell-small : (a : Answer) → cellOf a < cells
+pub cell-small : (a : Answer) → cellOf a < tallySize
 unfolding cellOf
 cell-small a = by-small (ruleNumbered (a .rule)) (a .verdict)
 
 -- ---- as the code finds it
 
-is-cell : (a : Answer) {k : ℕ} → k ≡ cellBy (ruleNumbered (a .rule)) (a .verdict) → (k ≡ cellOf a) × (k < cells)
+is-cell : (a : Answer) {k : ℕ} → k ≡ cellBy (ruleNumbered (a .rule)) (a .verdict) → (k ≡ cellOf a) × (k < tallySize)
 unfolding cellOf
 is-cell a e = (e, rw e (by-small (ruleNumbered (a .rule)) (a .verdict)))
 
@@ -50,7 +51,7 @@ unfolding ruleNumbered pick
 none-zero = refl
 
 -- without a rule
-pub other-cell : (a : Answer) {k : ℕ} → a .rule ≡ 0 → k ≡ otherCell (a .verdict) → (k ≡ cellOf a) × (k < cells)
+pub other-cell : (a : Answer) {k : ℕ} → a .rule ≡ 0 → k ≡ otherCell (a .verdict) → (k ≡ cellOf a) × (k < tallySize)
 other-cell a e ek = is-cell a (ek ∙ rw (e, none-zero))
 
 -- by a rule
@@ -67,7 +68,7 @@ by-rule a (ruled r e h) n =
 by-rule a (unruled e v) n = absurd (n e)
 by-rule a (before e v) n = absurd (n e)
 
-pub rule-cell : (a : Answer) {f v : ℕ} → ByRule a → f ≡ firstBy (ruleNumbered (a .rule)) → v ≡ verdictNumber (a .verdict) → (f + v - 1 ≡ cellOf a) × (f + v - 1 < cells)
+pub rule-cell : (a : Answer) {f v : ℕ} → ByRule a → f ≡ firstBy (ruleNumbered (a .rule)) → v ≡ verdictNumber (a .verdict) → (f + v - 1 ≡ cellOf a) × (f + v - 1 < tallySize)
 rule-cell a {f} {v} b ef ev =
     let k : f + v - 1 ≡ f + (v - 1) = omega (arith, b .judged, ev) in
     is-cell a (rw (k, ef, ev, b .chosen))

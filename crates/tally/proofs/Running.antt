@@ -1,6 +1,5 @@
 -- Lines that are fed one after the other by a loop that knows how many more are counted. Assumes nothing.
 use mathlib.Core.Path.{_≡_, refl, sym, ap, _∙_}
-use mathlib.Core.Bool.{Bool}
 use mathlib.Core.List.{List, [], _∷_, _++_}
 use Prim.Native.Nat.{ℕ, _-_, _<_}
 use native.Mathlib.Omega.{arith}
@@ -9,11 +8,11 @@ use lib.ListN.{length}
 use Rattle.answer.specs.declared.record.Answer.{Answer}
 use Rattle.lines.specs.Line.{answerOf}
 use Rattle.tally.specs.declared.counts.Fed.{Fed}
-use Rattle.tally.specs.Cell.{cells, cellOf}
-use Rattle.tally.specs.Tally.{isFull, fed, replies, after}
+use Rattle.tally.specs.Cell.{tallySize, cellOf}
+use Rattle.tally.specs.Tally.{fed, replies, after}
 use Rattle.tally.specs.Inner.{leftIn, fedIf, fedIn}
 use Rattle.tally.proofs.Places.{cell-small}
-use Rattle.tally.proofs.Feeding.{full-left, fed-known, total-more}
+use Rattle.tally.proofs.Feeding.{fed-by-left, total-more}
 use Rattle.tally.proofs.Histories.{by-full, fed-refused, fed-taken, fed-length}
 
 -- ---- histories one after the other
@@ -37,11 +36,8 @@ after-one : (counts l : List ℕ) → after counts (l ∷ []) ≡ fed counts l .
 unfolding after
 after-one counts l = refl
 
-replies-none : (counts : List ℕ) → replies counts [] ≡ []
-unfolding replies
-replies-none counts = refl
-
-after-none : (counts : List ℕ) → counts ≡ after counts []
+-- no line
+pub after-none : (counts : List ℕ) → after counts [] ≡ counts
 unfolding after
 after-none counts = refl
 
@@ -53,7 +49,7 @@ replies-length counts (l ∷ ls) = omega (arith, replies-length (fed counts l .c
 
 -- ---- the loop
 
-left-fed : (counts line : List ℕ) → length counts ≡ cells → leftIn (fed counts line .counts) ≡ leftIn counts - 1
+left-fed : (counts line : List ℕ) → length counts ≡ tallySize → leftIn (fed counts line .counts) ≡ leftIn counts - 1
 unfolding leftIn
 left-fed counts line size =
     by-full counts (λ h. rw (fed-refused counts line h) (omega arith))
@@ -65,17 +61,15 @@ left-fed counts line size =
 pub record Running (counts₀ counts : List ℕ) (more : ℕ) (done : List (List ℕ)) : Type 0 where
   pub counted : counts ≡ after counts₀ done
   pub known : more ≡ leftIn counts
-  pub size : length counts ≡ cells
+  pub size : length counts ≡ tallySize
 
-pub running-none : (counts : List ℕ) (more : ℕ) → more ≡ leftIn counts → length counts ≡ cells → Running counts counts more []
-running-none counts more e size = record { counted = after-none counts; known = e; size = size }
+pub running-none : (counts : List ℕ) (more : ℕ) → more ≡ leftIn counts → length counts ≡ tallySize → Running counts counts more []
+running-none counts more e size = record { counted = sym (after-none counts); known = e; size = size }
 
 module _ {counts₀ counts counts′ : List ℕ} {more : ℕ} {done : List (List ℕ)} {a : Answer} (line : List ℕ) (r : Running counts₀ counts more done)
     (e : fedIn a counts′ ≡ fedIf (eqb more 0) counts line) where
   is-fed : fedIn a counts′ ≡ fed counts line
-  is-fed =
-      let k : eqb more 0 ≡ isFull counts = ap (λ (n : ℕ). eqb n 0) (r .known) ∙ full-left counts in
-      e ∙ ap (λ (t : Bool). fedIf t counts line) k ∙ fed-known counts line
+  is-fed = e ∙ fed-by-left counts line more (r .known)
 
   pub running-reply : replies counts₀ (done ++ line ∷ []) ≡ replies counts₀ done ++ a ∷ []
   running-reply =

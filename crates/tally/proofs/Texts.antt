@@ -16,7 +16,7 @@ use Rattle.answer.proofs.Numerals.{numeral-one, numeral-more, numeral-few, nume
 use Rattle.rules.specs.declared.rule.Rule.{Rule}
 use Rattle.rules.specs.declared.rule.Rule.the-variants.{R40}
 use Rattle.rules.specs.Facts.{facts, rules}
-use Rattle.tally.specs.Cell.{cells}
+use Rattle.tally.specs.Cell.{tallySize}
 use Rattle.tally.specs.Text.{linesText, tallyText, tallyRoom}
 
 -- ---- a number
@@ -59,14 +59,14 @@ put-row n counts i h room p q x y =
     let pqx = put-more pq x (omega (arith, pq .few)) in
     rw (three counts i h) (simp append-assoc at (put-more pqx y (omega (arith, pqx .few))))
 
-two : (counts : List ℕ) → length counts ≡ cells → drop 51 counts ≡ getD counts 51 0 ∷ getD counts 52 0 ∷ []
+two : (counts : List ℕ) → length counts ≡ tallySize → drop 51 counts ≡ getD counts 51 0 ∷ getD counts 52 0 ∷ []
 two counts h =
     let a = drop-cons counts 51 0 (omega arith) in
     let b = drop-cons counts 52 0 (omega arith) in
     let past : length counts ≤ 53 = omega arith in
     rw (a, b, drop-of-length-le counts past)
 
-pub put-two : (counts : List ℕ) {o o₁ o₂ : List ℕ} {at k r : ℕ} → length counts ≡ cells → at + 22 ≤ length o
+pub put-two : (counts : List ℕ) {o o₁ o₂ : List ℕ} {at k r : ℕ} → length counts ≡ tallySize → at + 22 ≤ length o
     → Put 11 o at (field (getD counts 51 0) 32) k o₁ → Put 11 o₁ k (field (getD counts 52 0) 10) r o₂
     → Put 22 o at (numbersText (drop 51 counts)) r o₂
 unfolding numbersText

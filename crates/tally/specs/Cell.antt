@@ -1,9 +1,11 @@
 -- Which of a tally's counts an answer goes to, by its rule and its verdict.
 use mathlib.Core.Path.{_≡_}
+use lib.Dec.{eqb}
+use Rattle.ascii.specs.Pick.{pick}
 use Prim.Native.Nat.{ℕ, _+_, _-_, _*_, _<_}
 use Rattle.answer.specs.declared.record.Answer.{Answer}
 use Rattle.answer.specs.declared.verdict.Verdict.{Verdict}
-use Rattle.answer.specs.declared.verdict.Verdict.the-variants.{NoRule as NoVerdict, Accepted, Refused, Unread}
+use Rattle.answer.specs.declared.verdict.Verdict.the-variants.{NoRule as NoVerdict, Refused}
 use Rattle.answer.specs.Numbers.{verdictNumber}
 use Rattle.rules.specs.declared.rule.Rule.{Rule}
 use Rattle.rules.specs.declared.choice.Chosen.{Chosen}
@@ -12,15 +14,12 @@ use Rattle.rules.specs.Facts.{facts}
 use Rattle.rules.specs.Choice.{ruleNumbered}
 
 -- how many counts: 17 rules with three verdicts each, and two others
-abbrev pub cells : ℕ
-cells = 53
+abbrev pub tallySize : ℕ
+tallySize = 53
 
--- the two others: no rule reads the field; refused before a rule is chosen
+-- the two others: no rule reads the field (verdict 0); refused before a rule is chosen
 abbrev pub otherCell : Verdict → ℕ
-otherCell NoVerdict = 51
-otherCell Accepted = 52
-otherCell Refused = 52
-otherCell Unread = 52
+otherCell v = pick (eqb (verdictNumber v) 0) 51 52
 
 -- three for each rule, in the order of their numbers: for verdicts 1, 2 and 3
 abbrev pub cellBy : Chosen → Verdict → ℕ
@@ -31,7 +30,7 @@ cellBy NoTerm v = otherCell v
 unfoldable pub cellOf : Answer → ℕ
 cellOf a = cellBy (ruleNumbered (a .rule)) (a .verdict)
 
--- the answers that a line can have: by a rule; no rule reads the field; refused before a rule is chosen
+-- the answers that a line can have
 pub data Proper : Answer → Type 0 where
   ruled : {a : Answer} (r : Rule) → a .rule ≡ facts r .number → 0 < verdictNumber (a .verdict) → Proper a
   unruled : {a : Answer} → a .rule ≡ 0 → a .verdict ≡ NoVerdict → Proper a

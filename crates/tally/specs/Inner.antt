@@ -11,9 +11,9 @@ use Rattle.rules.specs.Facts.{facts}
 use Rattle.lines.specs.Line.{answerOf}
 use Rattle.tally.specs.declared.counts.Fed.{Fed}
 use Rattle.tally.specs.Cell.{cellOf}
-use Rattle.tally.specs.Tally.{total, limit, fullAnswer}
+use Rattle.tally.specs.Tally.{sumOf, limit, fullAnswer}
 
--- the first of a rule's three cells, and of the two others
+-- the first of a rule's three tallySize, and of the two others
 abbrev pub firstBy : Chosen → ℕ
 firstBy (By r) = 3 * facts r .index
 firstBy NoRule = 51
@@ -21,7 +21,7 @@ firstBy NoTerm = 51
 
 -- how many more lines are counted
 unfoldable pub leftIn : List ℕ → ℕ
-leftIn counts = limit - total counts
+leftIn counts = limit - sumOf counts
 
 -- one more in a cell, as numbers of 32 bits add
 unfoldable pub raised : List ℕ → ℕ → List ℕ

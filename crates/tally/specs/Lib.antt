@@ -2,4 +2,5 @@
 pub mod Cell
 pub mod Tally
 pub mod Text
+pub mod Meaning
 pub mod Inner

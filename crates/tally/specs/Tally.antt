@@ -11,21 +11,21 @@ use Rattle.answer.specs.declared.severity.Severity.the-variants.{NoSeverity}
 use Rattle.answer.specs.Answers.{refused}
 use Rattle.lines.specs.Line.{answerOf}
 use Rattle.tally.specs.declared.counts.Fed.{Fed}
-use Rattle.tally.specs.Cell.{cells, cellOf}
+use Rattle.tally.specs.Cell.{tallySize, cellOf}
 
 abbrev pub fresh : List ℕ
-fresh = replicate cells 0
+fresh = replicate tallySize 0
 
-unfoldable pub total : List ℕ → ℕ
-total [] = 0
-total (c ∷ counts) = c + total counts
+unfoldable pub sumOf : List ℕ → ℕ
+sumOf [] = 0
+sumOf (c ∷ counts) = c + sumOf counts
 
 -- the lines that a tally counts at most
 abbrev pub limit : ℕ
 limit = 4294967295
 
 unfoldable pub isFull : List ℕ → Bool
-isFull counts = leb limit (total counts)
+isFull counts = leb limit (sumOf counts)
 
 abbrev pub fullAnswer : Answer
 fullAnswer = refused 0 NoSeverity Full

@@ -2,7 +2,7 @@
 ghost use mathlib.Core.Path.{_≡_};
 ghost use Prim.Native.Nat.{_<_};
 ghost use Rattle.rules.specs.Choice.{ruleNumbered};
-ghost use Rattle.tally.specs.Cell.{cells, otherCell, cellOf, Proper};
+ghost use Rattle.tally.specs.Cell.{tallySize, otherCell, cellOf, Proper};
 ghost use Rattle.tally.specs.Inner.{firstBy};
 use answer::Answer;
 use answer::Verdict;
@@ -18,7 +18,7 @@ fn other_cell(verdict: Verdict) -> usize
     }
 }
 
-// The first of the three cells of the rule that has a number. The compiler looks numbers of two digits up, with one answer for all others.
+// The first of the three cells of the rule that has a number. Two-digit numbers are one lookup; 561 is asked before it, and 562 is what is left.
 fn first_cell(number: u32) -> usize
     requires { ⌜ firstBy (ruleNumbered number) < 51 ⌝ }
     ensures { λ r. ⌜ r ≡ firstBy (ruleNumbered number) ⌝ }
@@ -49,7 +49,7 @@ fn first_cell(number: u32) -> usize
 pub(crate) fn cell(a: Answer) -> usize
     requires { ⌜ Proper a ⌝ }
     ensures { λ r. ⌜ r ≡ cellOf a ⌝ }
-    ensures { λ r. ⌜ r < cells ⌝ }
+    ensures { λ r. ⌜ r < tallySize ⌝ }
 {
     let verdict = a.verdict;
     if a.rule == 0 {

@@ -2,8 +2,8 @@
 ghost use mathlib.Core.Path.{_≡_};
 ghost use Prim.Native.Nat.{_-_, _≤_, _<_};
 ghost use lib.ListN.{length};
-ghost use Rattle.tally.specs.Cell.{cells};
-ghost use Rattle.tally.specs.Tally.{fresh, total, fullAnswer, fed};
+ghost use Rattle.tally.specs.Cell.{tallySize};
+ghost use Rattle.tally.specs.Tally.{fresh, sumOf, fullAnswer, fed};
 ghost use Rattle.tally.specs.Inner.{leftIn, raised, fedIf, fedIn};
 use super::cells::cell;
 use answer::Answer;
@@ -26,8 +26,8 @@ pub fn fresh() -> [u32; 53]
 }
 
 fn total(counts: &[u32]) -> u64
-    requires { ⌜ length (now counts) ≤ cells ⌝ }
-    ensures { λ r. ⌜ r ≡ total (now (counts .entry)) ⌝ }
+    requires { ⌜ length (now counts) ≤ tallySize ⌝ }
+    ensures { λ r. ⌜ r ≡ sumOf (now (counts .entry)) ⌝ }
 {
     let mut sum: u64 = 0;
     let mut i: usize = 0;
@@ -38,10 +38,10 @@ fn total(counts: &[u32]) -> u64
     sum
 }
 
-// How many more lines are counted.
+// How many more lines are counted. That there are 53 counts, which their type says, is told to loops that cite it.
 pub fn left(counts: &[u32; 53]) -> u32
     ensures exact { λ r. ⌜ r ≡ leftIn (now (counts .entry)) ⌝ }
-    ensures size { λ _. ⌜ length (now (counts .entry)) ≡ cells ⌝ }
+    ensures size { λ _. ⌜ length (now (counts .entry)) ≡ tallySize ⌝ }
 {
     let sum = total(counts);
     if sum < LIMIT {

@@ -7,7 +7,7 @@ ghost use lib.ListN.{length, take, drop};
 ghost use Rattle.ascii.specs.Area.{Put};
 ghost use Rattle.ascii.specs.Pick.{pick};
 ghost use Rattle.answer.specs.Text.{numeral, field, numbersText};
-ghost use Rattle.tally.specs.Cell.{cells};
+ghost use Rattle.tally.specs.Cell.{tallySize};
 ghost use Rattle.tally.specs.Text.{tallyText, tallyRoom};
 
 // The bytes that a tally's text takes at most.
@@ -81,7 +81,7 @@ fn put_line(number: u32, counts: &[u32], i: usize, out: &mut [u8], at: usize) ->
 
 // The two others.
 fn put_others(counts: &[u32], out: &mut [u8], at: usize) -> usize
-    requires { ⌜ length (now counts) ≡ cells ⌝ }
+    requires { ⌜ length (now counts) ≡ tallySize ⌝ }
     requires { ⌜ at + 22 ≤ length (now out) ⌝ }
     ensures { λ r. ⌜ Put 22 (now (out .entry)) at (numbersText (drop 51 (now (counts .entry)))) r (now (out .exit)) ⌝ }
 {
@@ -90,7 +90,7 @@ fn put_others(counts: &[u32], out: &mut [u8], at: usize) -> usize
 }
 
 fn put_lines(counts: &[u32], out: &mut [u8], at: usize) -> usize
-    requires { ⌜ length (now counts) ≡ cells ⌝ }
+    requires { ⌜ length (now counts) ≡ tallySize ⌝ }
     requires { ⌜ at + tallyRoom ≤ length (now out) ⌝ }
     ensures { λ r. ⌜ Put tallyRoom (now (out .entry)) at (tallyText (now (counts .entry))) r (now (out .exit)) ⌝ }
 {

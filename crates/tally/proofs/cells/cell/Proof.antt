@@ -1,4 +1,4 @@
--- `tally::cells::cell` gives the cell of an answer.
+-- `tally::tallySize::cell` gives the cell of an answer.
 use native.Mathlib.Omega.{arith}
 use Rattle.tally.proofs.Places.{verdict-few, other-cell, by-rule, rule-cell}
 use borrow.Author.Needs.{needs}

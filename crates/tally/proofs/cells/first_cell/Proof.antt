@@ -1,4 +1,4 @@
--- `tally::cells::first_cell` meets its contract: each arm's number is a rule's, and past them all it is the last rule's.
+-- `tally::tallySize::first_cell` meets its contract: each arm's number is a rule's, and past them all it is the last rule's.
 use mathlib.Core.Path.{_≡_}
 use Prim.Native.Nat.{ℕ}
 use lib.Dec.{eqb}

@@ -1,16 +1,16 @@
--- `tally::counts::total` adds the counts up.
+-- `tally::counts::sumOf` adds the counts up.
 use mathlib.Core.Path.{_≡_}
 use Prim.Native.Nat.{_+_, _*_, _-_, _≤_}
 use native.Mathlib.Omega.{arith}
 use lib.ListN.{length, drop}
-use Rattle.tally.specs.Tally.{total}
+use Rattle.tally.specs.Tally.{sumOf}
 use Rattle.tally.proofs.Feeding.{total-step, total-all}
 use borrow.Author.Needs.{needs}
 use Rattle.tally.proofs.counts.total.Statement.{statement}
 use Rattle.tally.proofs.counts.total.Tie as tie
 
 abbrev Inv-loop : tie.InvT-loop
-Inv-loop counts sum₀ i₀ sum i = (i ≤ length counts) × (sum ≤ 4294967295 * i) × (sum + total (drop i counts) ≡ total counts)
+Inv-loop counts sum₀ i₀ sum i = (i ≤ length counts) × (sum ≤ 4294967295 * i) × (sum + sumOf (drop i counts) ≡ sumOf counts)
 
 abbrev μ-loop : tie.MeasureT-loop
 μ-loop counts sum₀ i₀ sum i = length counts - i
