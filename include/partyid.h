@@ -5,7 +5,7 @@
  *     puts(partyid_reason_words(answer.reason));
  *
  * Every function takes any bytes and asks nothing of its caller but what a pointer with its length is: so many bytes that may be
- * read, or written where the area is not const. A pointer whose length is 0 may be null. An area must not overlap another argument.
+ * read, or written where the area is not const; a text's area has 1,024 bytes, a tally 53 numbers. A pointer whose length is 0 may be null. An area must not overlap another argument.
  * Nothing is kept between calls and nothing is allocated, so that functions may be called from several threads at once.
  *
  * A number that passes says nothing about whether the party exists: a check figure finds slips of the hand, and knows no register.
@@ -51,7 +51,7 @@ extern "C" {
 
 /* The counts of a tally, and the most lines that they count together. */
 #define PARTYID_TALLY_COUNTS 53
-#define PARTYID_TALLY_LIMIT 4294967295
+#define PARTYID_TALLY_LIMIT 4294967295u
 
 enum partyid_verdict {
     PARTYID_VERDICT_NO_RULE = 0,  /* no rule reads such a field */
@@ -175,16 +175,17 @@ static inline struct partyid_batch partyid_check_lines(const void *text, size_t 
 
 /* ---- A tally: lines answered, and counted by rule and verdict
 
-   Its counts are exactly PARTYID_TALLY_COUNTS numbers that the caller lends, and that must not be null. First come the rules in the order of their
+   Its counts are exactly PARTYID_TALLY_COUNTS numbers that the caller lends, by a pointer that must not be null. First come the rules in the order of their
    numbers (40 to 47, 49, 50, 52 to 55, 57, 561, 562) with three counts each: accepted, refused, let through unread. Then the lines that no rule
    reads, and last those refused before a rule is chosen (TERM, LINE). A fresh tally is zeros: uint32_t counts[PARTYID_TALLY_COUNTS] = {0}. */
 
-/* The answer to one line, as partyid_answer_line gives it, and its count goes up by one. Where the counts already add up to PARTYID_TALLY_LIMIT
+/* The answer to one line, as partyid_answer_line gives it, and the count of its rule and verdict goes up by one. Where the counts already add up to PARTYID_TALLY_LIMIT
    or more, the line is refused (FULL) and no count changes. */
 struct partyid_answer partyid_tally_line(const void *line, size_t line_len, uint32_t *counts);
 
 /* The answers to the lines of a text, as partyid_answer_lines gives them, with each line counted as above. A line that is not answered is not
-   counted, so that a call with the rest of the text goes on where this one ends. */
+   counted, so that a call with the rest of the text goes on where this one ends. Of a text that is cut inside a line both halves are counted: cut it
+   behind a newline. */
 struct partyid_batch partyid_tally_lines(const void *text, size_t text_len, uint32_t *counts, uint32_t *out, size_t out_len);
 
 /* The same into an array of answers: out_len is how many it has room for. */
@@ -209,7 +210,7 @@ struct partyid_text partyid_normalize_space(const void *content, size_t content_
 /* Every white point removed; the area as above. */
 struct partyid_text partyid_strip(const void *content, size_t content_len, void *area);
 
-/* ---- Words, and a tally read. These decide nothing, and are not proved. A number that stands for nothing is "unknown". */
+/* ---- Words, and reading a tally. These decide nothing, and are not proved. A number that stands for nothing is "unknown". */
 
 /* The version of the library that is linked, as PARTYID_VERSION. */
 const char *partyid_version(void);

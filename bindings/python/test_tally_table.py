@@ -34,7 +34,7 @@ class Table(unittest.TestCase):
         self.assertEqual(len(rows), 17)
         self.assertEqual([int(word) for word in sums.split()[1:]], [sum(int(row.split()[column]) for row in rows) for column in (2, 3, 4, 5)])
         self.assertEqual(no_rule, f"lines whose field no rule reads: {wanted[0, Verdict.NO_RULE]}")
-        self.assertEqual(refused, f"lines refused without a rule (unknown term or malformed head): {wanted[0, Verdict.REFUSED]}")
+        self.assertEqual(refused, f"lines refused without a rule (unknown term or malformed head; partyid lines FILE shows them): {wanted[0, Verdict.REFUSED]}")
         self.assertEqual((total, last), (f"lines counted: {len(KINDS) + 2}", LOOK_UP))
         self.assertEqual((said.status, said.err), (0, ""))
 
@@ -49,7 +49,7 @@ class Table(unittest.TestCase):
         ])
         self.assertEqual(said.out.splitlines()[19:-1], [
             "lines whose field no rule reads: 10,000",
-            "lines refused without a rule (unknown term or malformed head): 54,322",
+            "lines refused without a rule (unknown term or malformed head; partyid lines FILE shows them): 54,322",
             "lines counted: 1,299,901",
         ])
 

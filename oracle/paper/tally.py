@@ -1,11 +1,11 @@
-"""The tally: how many lines came to which answer; and the line program, which counts all the lines that it answers."""
+"""The tally: how many lines came to which answer; and the line program, which counts the lines that it answers, up to the limit."""
 from .answers import ACCEPTED, FULL, NO_RULE, REFUSED, UNREAD
 from .lines import answer_line, answer_lines
 from .rules import RULES
 
 #: The most lines that a tally counts.
 MOST = 2**32 - 1
-#: What a cell counts, a rule and a verdict: every rule in the order of the numbers; no rule; a term or a line that no rule reads.
+#: What a cell counts, a rule and a verdict: every rule in the order of the numbers; no rule; refused before a rule is chosen.
 CELLS = [(rule, verdict) for rule in sorted(RULES) for verdict in (ACCEPTED, REFUSED, UNREAD)] + [(0, NO_RULE), (0, REFUSED)]
 #: How many lines the text of a tally has.
 TEXT_LINES = len(RULES) + 1

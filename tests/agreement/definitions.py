@@ -86,7 +86,7 @@ def constants(crates: pathlib.Path, structs: dict[str, list[Typed]]) -> dict[str
         "PARTYID_LIST_DIGITS": most_digits(crates),
         "PARTYID_LIST_ROOM(n)": room[1],
         "PARTYID_ANSWER_NUMBERS": answer_numbers(crates, structs),
-        "PARTYID_TALLY_COUNTS": number_in(crates, "tally/specs/Cell.antt", r"^cells = (\d+)$"),
+        "PARTYID_TALLY_COUNTS": number_in(crates, "tally/specs/Cell.antt", r"^tallySize = (\d+)$"),
         "PARTYID_TALLY_LIMIT": number_in(crates, "tally/specs/Tally.antt", r"^limit = (\d+)$"),
     }
 

@@ -9,7 +9,7 @@ ENUM = re.compile(r"enum (partyid_\w+) \{([^}]*)\};")
 STRUCT = re.compile(r"struct (partyid_\w+) \{([^}]*)\};")
 FUNCTION = re.compile(r"((?:struct partyid_\w+|bool|uint32_t) |const char \*)(partyid_\w+)\(([^)]*)\);")
 INLINE = re.compile(r"static inline (struct partyid_\w+ )(partyid_\w+)\(([^)]*)\)\n\{\n    return ([^;]*);\n\}")
-CONSTANT = re.compile(r"^#define (PARTYID_\w+(?:\(n\))?) (.+)$", re.M)
+CONSTANT = re.compile(r"^#define (PARTYID_\w+(?:\(n\))?) (\d+(?=u$)|.+)u?$", re.M)
 DECLARATIONS = (ENUM, STRUCT, INLINE, FUNCTION, CONSTANT)
 
 # what the functions give that decide nothing: words, and a count

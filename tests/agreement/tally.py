@@ -5,7 +5,7 @@ import ctypes
 import pathlib
 import re
 
-from .definitions import cases, equations, number_in
+from .definitions import cases, number_in
 from .interface import Unreadable, differing
 from .rust_binding import code_of
 from .words import only
@@ -15,7 +15,10 @@ Places = dict[tuple[int, int], int]
 
 CELLS = "tally/specs/Cell.antt"
 BY_RULE = ("Accepted", "Refused", "Unread")
-WITHOUT_RULE = {"NoRule": "NoVerdict", "Refused": "Refused"}  # as it is called there
+WITHOUT_RULE = {
+    "NoRule": r"^otherCell v = pick \(eqb \(verdictNumber v\) 0\) (\d+) \d+$",
+    "Refused": r"^otherCell v = pick \(eqb \(verdictNumber v\) 0\) \d+ (\d+)$",
+}
 
 
 def rule_numbers(crates: pathlib.Path) -> list[int]:
@@ -28,12 +31,11 @@ def rule_numbers(crates: pathlib.Path) -> list[int]:
 
 def places(crates: pathlib.Path) -> Places:
     """By the definitions, which give each place to one rule and verdict."""
-    verdicts, text = dict(cases(crates)["verdict"]), (crates / CELLS).read_text()
-    others = dict(equations(text, "otherCell"))
+    verdicts = dict(cases(crates)["verdict"])
     each = int(number_in(crates, CELLS, r"^cellBy \(By r\) v = (\d+) \* facts r \.index \+ \(verdictNumber v - 1\)$"))
     found = {(rule, verdicts[name]): each * i + verdicts[name] - 1 for i, rule in enumerate(rule_numbers(crates)) for name in BY_RULE}
-    found |= {(0, verdicts[name]): others[called] for name, called in WITHOUT_RULE.items()}
-    if sorted(found.values()) != list(range(int(number_in(crates, CELLS, r"^cells = (\d+)$")))):
+    found |= {(0, verdicts[name]): int(number_in(crates, CELLS, of)) for name, of in WITHOUT_RULE.items()}
+    if sorted(found.values()) != list(range(int(number_in(crates, CELLS, r"^tallySize = (\d+)$")))):
         raise Unreadable(f"{CELLS}: the places are {sorted(found.values())}")
     return found
 

@@ -23,7 +23,7 @@ def feed_file(tally: Tally, file: Readable) -> int:
 def told(tally: Tally, uncounted: int) -> str:
     others = {
         "lines whose field no rule reads": tally.no_rule,
-        "lines refused without a rule (unknown term or malformed head)": tally.refused_without_rule,
+        "lines refused without a rule (unknown term or malformed head; partyid lines FILE shows them)": tally.refused_without_rule,
         "lines counted": tally.total,
     }
     if uncounted:

@@ -199,7 +199,7 @@ impl Iterator for TallyLines<'_> {
     }
 }
 
-/// The library counts all lines of a piece. Where some answers of the last are not taken, it is asked again, for the others alone.
+/// The library counts all lines of a piece. Where some answers of the last are not taken, it is asked again, for those that were taken.
 impl Drop for TallyLines<'_> {
     fn drop(&mut self) {
         if self.piece.left() > 0 {
