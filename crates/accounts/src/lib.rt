@@ -1,4 +1,5 @@
 // Identifiers of bank accounts: the IBAN and the creditor identifier.
+#![tactic(auto)]
 mod account;
 mod number;
 

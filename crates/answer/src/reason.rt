@@ -2,7 +2,7 @@
 ghost use Rattle.std.specs.Prelude.{◌≡◌};
 ghost use Rattle.answer.specs.Numbers.{reason_number};
 
-#[derive(Drop)]
+#[derive(Clone, Copy)]
 pub enum Reason {
     // none is given: the content is not refused, or the work is done
     NoReason,

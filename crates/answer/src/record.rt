@@ -6,7 +6,7 @@ use super::reason::Reason;
 use super::severity::Severity;
 use super::verdict::Verdict;
 
-#[derive(Drop)]
+#[derive(Clone, Copy)]
 pub struct Answer {
     pub verdict: Verdict,
     pub rule: u32,

@@ -2,7 +2,7 @@
 ghost use Rattle.std.specs.Prelude.{◌≡◌};
 ghost use Rattle.answer.specs.Numbers.{severity_number};
 
-#[derive(Drop)]
+#[derive(Clone, Copy)]
 pub enum Severity {
     NoSeverity,
     Fatal,

@@ -2,7 +2,7 @@
 ghost use Rattle.std.specs.Prelude.{◌≡◌};
 ghost use Rattle.answer.specs.Numbers.{verdict_number};
 
-#[derive(Drop)]
+#[derive(Clone, Copy)]
 pub enum Verdict {
     NoRule,
     Accepted,

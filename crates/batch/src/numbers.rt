@@ -10,7 +10,7 @@ use answer::Answer;
 pub(crate) const NUMBERS: usize = 4;
 
 // How many lines were answered, and how many bytes of the text they are.
-#[derive(Drop)]
+#[derive(Clone, Copy)]
 pub struct Batch {
     pub count: usize,
     pub used: usize,

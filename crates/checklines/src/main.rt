@@ -6,7 +6,7 @@ ghost use Rattle.stream.specs.Turn.{closing_room};
 use libc::{STDIN_FILENO, STDOUT_FILENO};
 
 // Whether to go on, and how much of the window is kept.
-#[derive(Drop)]
+#[derive(Clone, Copy)]
 struct Next {
     go: bool,
     kept: usize,
@@ -23,9 +23,9 @@ fn write(text: &[u8]) -> bool {
 
 // One turn: reads behind what is kept, answers, counts, and writes. Where reading fails, or an answer can't be written, no counts are written.
 fn turn(buf: &mut [u8], kept: usize, out: &mut [u8], counts: &mut [u32; 53]) -> Next
-    requires kept_in_bounds { kept < length buf.old }
-    requires line_bytes_in_bounds { line_bytes < length buf.old }
-    requires closing_room_in_bounds { closing_room ≤ length out.old }
+    requires kept_inside { kept < length buf.old }
+    requires line_fits { line_bytes < length buf.old }
+    requires room { closing_room ≤ length out.old }
     ensures { result.kept < length buf.new }
 {
     let got = libc::read(STDIN_FILENO, &mut buf[kept..]);
@@ -44,8 +44,8 @@ fn turn(buf: &mut [u8], kept: usize, out: &mut [u8], counts: &mut [u32; 53]) -> 
 }
 
 fn answer_all(buf: &mut [u8], out: &mut [u8], counts: &mut [u32; 53])
-    requires line_bytes_in_bounds { line_bytes < length buf.old }
-    requires closing_room_in_bounds { closing_room ≤ length out.old }
+    requires line_fits { line_bytes < length buf.old }
+    requires room { closing_room ≤ length out.old }
 {
     let mut kept = 0;
     let mut turns = u64::MAX;

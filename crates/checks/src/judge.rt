@@ -8,7 +8,7 @@ use answer::{Answer, Reason, Severity, refused};
 use figures::Finding;
 use rules::Rule;
 
-#[derive(Drop)]
+#[derive(Clone, Copy)]
 pub enum Judge {
     ByRule(Rule),
     Iban,

@@ -1,6 +1,6 @@
 -- Laws of the definitions, for the code's proofs. Assumes nothing.
 use mathlib.Core.Path.{◌≡◌, refl, ◌∙◌, sym, ap}
-use mathlib.Core.Bool.{Bool, true, false, and_true}
+use mathlib.Core.Bool.{Bool, true, false, and-true}
 use mathlib.Core.List.{List, [], ◌∷◌}
 use Prim.Native.Nat.{ℕ, zero, suc, ◌+◌, ◌-◌, ◌≤◌, ◌<◌}
 use native.Mathlib.Numerals.{add-one}
@@ -62,7 +62,7 @@ empty_drop s i = empty_length (drop i s) ∙ rw length-drop (less (length s) i (
 -- one point
 pub one_point : (p : ℕ → Bool) (s : List ℕ) (i : ℕ) → i < length s → p (get_or s i 0) ≡ all p (take 1 (drop i s))
 unfolding all
-one_point p s i h = rw (drop-cons s i 0 h) (sym (and_true (p (get_or s i 0))))
+one_point p s i h = rw (drop-cons s i 0 h) (sym (and-true (p (get_or s i 0))))
 
 -- a part of the points has a part of their numbers
 codes_take : (n : ℕ) (ps : List Piece) → codes (take n ps) ≡ take n (codes ps)

@@ -33,7 +33,7 @@ fit_passes (g ∷ gs) ps =
 -- 11 points are one group
 whole : (ps : List Piece) → length ps ≡ 11 → all_pass groups_of11 ps ≡ integer_text (codes ps)
 unfolding all_pass
-whole ps h = let l : length ps ≤ 11 = omega arith in rw (take_all 11 ps l) (bool.and_true (integer_text (codes ps)))
+whole ps h = let l : length ps ≤ 11 = omega arith in rw (take_all 11 ps l) (bool.and-true (integer_text (codes ps)))
 
 by_count : (ps : List Piece) (t u : Bool) → eqb (length ps) 11 ≡ u
     → is_fit (pick t (failing groups_of16 ps) (pick u (failing groups_of11 ps) Length)) ≡ pick t (all_pass groups_of16 ps) (u && integer_text (codes ps))

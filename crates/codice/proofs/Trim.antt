@@ -5,7 +5,7 @@ use mathlib.Core.List.{List, [], ◌∷◌}
 use Prim.Native.Nat.{ℕ, ◌+◌, ◌≤◌, ◌<◌}
 use native.Mathlib.Numerals.{add-one}
 use native.Mathlib.Omega.{arith}
-use borrow.Author.Tests.{eqb-true, not_true}
+use borrow.Author.Tests.{eqb-true, not-true}
 use lib.Dec.{eqb}
 use lib.ListN.{length, get_or, drop, drop_of_length-le}
 use lib.Seq.{drop-cons}
@@ -20,7 +20,7 @@ use Rattle.codice.specs.Integer.{is_empty, past, trim_end, is_sign, unsigned, on
 
 -- two tests that never pass together, computed over the points that pass the first
 apart : (p q : ℕ → Bool) → below 58 (λ c. implies (p c) (not (q c))) ≡ true → (c : ℕ) → c < 58 → p c ≡ true → q c ≡ false
-apart p q h c l e = not_true (q c) (implies_use (p c) (not (q c)) (below_at 58 (λ x. implies (p x) (not (q x))) h c l) e)
+apart p q h c l e = not-true (q c) (implies_use (p c) (not (q c)) (below_at 58 (λ x. implies (p x) (not (q x))) h c l) e)
 
 pub digit_dark : (c : ℕ) → is_digit c ≡ true → is_white c ≡ false
 unfolding within is_digit among white_points is_white

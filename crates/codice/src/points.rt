@@ -5,7 +5,7 @@ ghost use Rattle.codice.specs.Inner.{Taken};
 use text::{Step, decode};
 
 // How many code points a text has, where it is well-formed and has at most 16.
-#[derive(Drop)]
+#[derive(Clone, Copy)]
 pub enum Count {
     Points(usize),
     Other,

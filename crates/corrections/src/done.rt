@@ -5,7 +5,7 @@ ghost use Rattle.corrections.specs.Outcome.{refused_with};
 use answer::Reason;
 
 // NoReason where the work is done, and then a count: of digits written or of entries.
-#[derive(Drop)]
+#[derive(Clone, Copy)]
 pub struct Done {
     pub reason: Reason,
     pub count: usize,

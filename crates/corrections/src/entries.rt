@@ -21,10 +21,10 @@ fn put_fix(
     out: &mut [u8],
     at: usize,
 ) -> usize
-    requires fact_1 { weights.now ≡ places_of kind }
-    requires fact_2 { Summed kind s.now sum }
-    requires fact_3 { i < length s.now }
-    requires fact_4 { at + length s.now ≤ length out.old }
+    requires placed { weights.now ≡ places_of kind }
+    requires summed { Summed kind s.now sum }
+    requires inside { i < length s.now }
+    requires room { at + length s.now ≤ length out.old }
     ensures { Put (length s.now) out.old at (joined (fixes_at (rule_of kind) s.now i)) result out.new }
 {
     let d = digit_at(kind, weights, s, sum, i);
@@ -47,10 +47,10 @@ fn put_swap(
     out: &mut [u8],
     at: usize,
 ) -> usize
-    requires fact_1 { weights.now ≡ places_of kind }
-    requires fact_2 { Summed kind s.now sum }
-    requires fact_3 { i + 1 < length s.now }
-    requires fact_4 { at + length s.now ≤ length out.old }
+    requires placed { weights.now ≡ places_of kind }
+    requires summed { Summed kind s.now sum }
+    requires inside { i + 1 < length s.now }
+    requires room { at + length s.now ≤ length out.old }
     ensures { Put (length s.now) out.old at (joined (if_accepted (rule_of kind) (exchanged s.now i))) result out.new }
 {
     if accepts_exchanged(kind, weights, s, sum, i) {
@@ -63,9 +63,9 @@ fn put_swap(
 
 // All replacements, from the area's start on; hands back where they end.
 fn put_replacements(kind: Five, weights: &[u32], s: &[u8], sum: u64, out: &mut [u8]) -> usize
-    requires fact_1 { weights.now ≡ places_of kind }
-    requires fact_2 { Summed kind s.now sum }
-    requires fact_3 { length s.now * length s.now ≤ length out.old }
+    requires placed { weights.now ≡ places_of kind }
+    requires summed { Summed kind s.now sum }
+    requires room { length s.now * length s.now ≤ length out.old }
     ensures { Put (length s.now * length s.now) out.old 0 (joined (replacements (rule_of kind) s.now)) result out.new }
 {
     let mut at = 0;
@@ -86,9 +86,9 @@ fn put_exchanges(
     out: &mut [u8],
     from: usize,
 ) -> usize
-    requires fact_1 { weights.now ≡ places_of kind }
-    requires fact_2 { Summed kind s.now sum }
-    requires fact_3 { from + (length s.now - 1) * length s.now ≤ length out.old }
+    requires placed { weights.now ≡ places_of kind }
+    requires summed { Summed kind s.now sum }
+    requires room { from + (length s.now - 1) * length s.now ≤ length out.old }
     ensures { Put ((length s.now - 1) * length s.now) out.old from (joined (exchanges (rule_of kind) s.now)) result out.new }
 {
     let mut at = from;
@@ -108,9 +108,9 @@ pub(crate) fn put_corrections(
     sum: u64,
     out: &mut [u8],
 ) -> usize
-    requires fact_1 { weights.now ≡ places_of kind }
-    requires fact_2 { Summed kind s.now sum }
-    requires fact_3 { room_for (length s.now) ≤ length out.old }
+    requires placed { weights.now ≡ places_of kind }
+    requires summed { Summed kind s.now sum }
+    requires room { room_for (length s.now) ≤ length out.old }
     ensures { Put (room_for (length s.now)) out.old 0 (joined (corrections (rule_of kind) s.now)) result out.new }
 {
     let mid = put_replacements(kind, weights, s, sum, out);

@@ -8,7 +8,7 @@ use forms::{AUSTRALIAN, BELGIAN, NORWEGIAN, SWEDISH};
 use rules::{Rule, Scheme};
 
 // 0088, 0192, 0208, 0007 and 0151.
-#[derive(Drop)]
+#[derive(Clone, Copy)]
 pub enum Five {
     Gln,
     Norway,
@@ -18,14 +18,14 @@ pub enum Five {
 }
 
 // One of the five, or any other scheme.
-#[derive(Drop)]
+#[derive(Clone, Copy)]
 pub enum Known {
     One(Five),
     Other,
 }
 
 // What is fixed about one of the five.
-#[derive(Drop)]
+#[derive(Clone, Copy)]
 pub struct Row {
     pub rule: Rule,
     pub figure: Kind,

@@ -11,9 +11,9 @@ use figures::{passes, share};
 
 // The digit that makes the rule accept s when it stands at i; 10 where there is none.
 pub(crate) fn digit_at(kind: Five, weights: &[u32], s: &[u8], sum: u64, i: usize) -> u8
-    requires fact_1 { weights.now ≡ places_of kind }
-    requires fact_2 { Summed kind s.now sum }
-    requires fact_3 { i < length s.now }
+    requires placed { weights.now ≡ places_of kind }
+    requires summed { Summed kind s.now sum }
+    requires inside { i < length s.now }
     ensures { fixes_at (rule_of kind) s.now i ≡ only (ltb result 10) (replaced s.now i result) }
 {
     let figure = kind.figure();
@@ -32,9 +32,9 @@ pub(crate) fn digit_at(kind: Five, weights: &[u32], s: &[u8], sum: u64, i: usize
 
 // The rule on s with the digits at i and i + 1 exchanged.
 pub(crate) fn accepts_exchanged(kind: Five, weights: &[u32], s: &[u8], sum: u64, i: usize) -> bool
-    requires fact_1 { weights.now ≡ places_of kind }
-    requires fact_2 { Summed kind s.now sum }
-    requires fact_3 { i + 1 < length s.now }
+    requires placed { weights.now ≡ places_of kind }
+    requires summed { Summed kind s.now sum }
+    requires inside { i + 1 < length s.now }
     ensures { result ≡ accepts (rule_of kind) (exchanged s.now i) }
 {
     let figure = kind.figure();

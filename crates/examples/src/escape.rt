@@ -20,7 +20,7 @@ fn hex_value(b: u8) -> u8
     0
 }
 
-#[derive(Drop)]
+#[derive(Clone, Copy)]
 struct Taken {
     byte: u8,
     width: usize,

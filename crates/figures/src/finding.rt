@@ -6,7 +6,7 @@ ghost use Rattle.figures.specs.Findings.{judged, form_only, reason_of};
 use answer::Reason;
 use forms::Fault;
 
-#[derive(Drop)]
+#[derive(Clone, Copy)]
 pub enum Finding {
     Good,
     // the rule lets the text through unread

@@ -10,7 +10,7 @@ use ascii::{is_digit, wide};
 use forms::Fault;
 
 // 0088, 0192, 0208, 0007, 0151.
-#[derive(Drop)]
+#[derive(Clone, Copy)]
 pub enum Kind {
     Mod10,
     Mod11,
@@ -20,7 +20,7 @@ pub enum Kind {
 }
 
 // The total of digits, or what is wrong with their form.
-#[derive(Drop)]
+#[derive(Clone, Copy)]
 pub enum Sum {
     Of(u64),
     Unfit(Fault),
@@ -118,8 +118,8 @@ pub fn share(kind: Kind, w: u32, d: u8) -> u64
 
 // The total of digits, with `after` more to come; or the first place that has no digit.
 fn added(kind: Kind, weights: &[u32], s: &[u8], after: usize) -> Sum
-    requires fact_1 { length s.now + after ≤ length weights.now }
-    requires fact_2 { length s.now ≤ 255 }
+    requires enough { length s.now + after ≤ length weights.now }
+    requires few { length s.now ≤ 255 }
     ensures { result ≡ summed (no_digit s.now) (total (adds_from after (figure_by kind).fold weights.now) s.now) }
 {
     let n = s.len();

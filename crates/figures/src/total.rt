@@ -10,8 +10,8 @@ use ascii::wide;
 
 // What a digit adds by its weight.
 fn part(w: u32, b: u8, fold: bool) -> u32
-    requires fact_1 { w ≤ 10000000 }
-    requires fact_2 { is_digit b ≡ true }
+    requires small { w ≤ 10000000 }
+    requires digit { is_digit b ≡ true }
     ensures exact { result ≡ counted fold (w * (b - 48)) }
     ensures bound { result ≤ w * 9 }
 {
@@ -24,8 +24,8 @@ fn part(w: u32, b: u8, fold: bool) -> u32
 
 // What the first digit adds where the number of digits is odd.
 fn lead(s: &[u8], last: u32, before: u32, fold: bool) -> u32
-    requires fact_1 { all is_digit s.now ≡ true }
-    requires fact_2 { last ≤ 3 }
+    requires digits { all is_digit s.now ≡ true }
+    requires small { last ≤ 3 }
     ensures exact { result + total (adds fold (last ∷ before ∷ [])) (drop (length s.now % 2) s.now) ≡ total (adds fold (last ∷ before ∷ [])) s.now }
     ensures bound { result ≤ 27 }
 {
@@ -37,10 +37,10 @@ fn lead(s: &[u8], last: u32, before: u32, fold: bool) -> u32
 
 // The total by two weights that alternate leftwards from the last digit. It goes from the left, two digits at a time.
 pub(crate) fn alternating(s: &[u8], last: u32, before: u32, fold: bool) -> u32
-    requires fact_1 { all is_digit s.now ≡ true }
-    requires fact_2 { length s.now ≤ 1024 }
-    requires fact_3 { last ≤ 3 }
-    requires fact_4 { before ≤ 3 }
+    requires digits { all is_digit s.now ≡ true }
+    requires few { length s.now ≤ 1024 }
+    requires last_small { last ≤ 3 }
+    requires before_small { before ≤ 3 }
     ensures { result ≡ total (adds fold (last ∷ before ∷ [])) s.now }
 {
     let n = s.len();
@@ -56,10 +56,10 @@ pub(crate) fn alternating(s: &[u8], last: u32, before: u32, fold: bool) -> u32
 
 // The total by a table of weights from the right, for no more digits than it has.
 pub(crate) fn weighted(s: &[u8], weights: &[u32]) -> u32
-    requires fact_1 { all is_digit s.now ≡ true }
-    requires fact_2 { length s.now ≤ 11 }
-    requires fact_3 { length s.now ≤ length weights.now }
-    requires fact_4 { all (λ w. leb w 10000000) (take (length s.now) weights.now) ≡ true }
+    requires digits { all is_digit s.now ≡ true }
+    requires few { length s.now ≤ 11 }
+    requires enough { length s.now ≤ length weights.now }
+    requires small { all (λ w. leb w 10000000) (take (length s.now) weights.now) ≡ true }
     ensures exact { result ≡ total (adds false weights.now) s.now }
     ensures bound { result ≤ 90000000 * length s.now }
 {
@@ -76,8 +76,8 @@ pub(crate) fn weighted(s: &[u8], weights: &[u32]) -> u32
 
 // The exact total of an ABN: from -10 to 980.
 pub(crate) fn abn_total(s: &[u8]) -> i64
-    requires fact_1 { all is_digit s.now ≡ true }
-    requires fact_2 { length s.now ≡ 11 }
+    requires digits { all is_digit s.now ≡ true }
+    requires eleven { length s.now ≡ 11 }
     ensures { result ≡ abn_total s.now }
 {
     let weights = MOD89;

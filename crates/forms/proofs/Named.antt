@@ -1,6 +1,6 @@
 -- What a text that fits a named form is, byte by byte. Assumes nothing.
 use mathlib.Core.Path.{◌≡◌, refl, ◌∙◌, sym, ap}
-use mathlib.Core.Bool.{Bool, true, false, ◌&&◌, ◌||◌, and-false, or-true, or_false}
+use mathlib.Core.Bool.{Bool, true, false, ◌&&◌, ◌||◌, and-false, or-true, or-false}
 use mathlib.Core.List.{List, [], ◌∷◌}
 use Prim.Native.Nat.{ℕ, ◌≤◌}
 use native.Mathlib.Omega.{arith}
@@ -41,7 +41,7 @@ danish_either s = go (eqb (length s) 8) refl
         rw w
     go false e =
         let w : fits (digits 8 8) s ≡ false = unfit (digits 8 8) s (not_true _ (λ h. let b = bounds 8 8 (length s) h in eqb-false (length s) 8 e (omega arith))) in
-        rw w (sym (or_false (fits dk_and_eight s)))
+        rw w (sym (or-false (fits dk_and_eight s)))
 
 -- ---- 47
 
@@ -62,7 +62,7 @@ first_byte b s true e =
     rw w
 first_byte b s false e =
     let w : fits lower (b ∷ s) ≡ false = unlike 0x69 _ 0x23 13 13 b s e in
-    rw w (sym (or_false (fits upper (b ∷ s))))
+    rw w (sym (or-false (fits upper (b ∷ s))))
 
 -- IT and 11 digits, or it and 11 digits
 pub italian_either : (s : List ℕ) → fits (italian_of s) s ≡ fits upper s || fits lower s

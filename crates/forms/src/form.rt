@@ -5,7 +5,7 @@ ghost use Rattle.forms.specs.Form.{of_class, class_at, wrong, fault_of, form_fro
 use ascii::{is_digit, is_letter, is_plain, wide};
 
 // What is wrong with a text by a form: nothing, its length, or the first place whose byte is not of its class.
-#[derive(Drop)]
+#[derive(Clone, Copy)]
 pub enum Fault {
     Fits,
     Length,

@@ -5,7 +5,7 @@ ghost use Rattle.guard.specs.Codes.{successor_of, withdrawn_of};
 use ascii::same_bytes;
 
 // The four bytes of a code.
-#[derive(Drop)]
+#[derive(Clone, Copy)]
 pub struct Code {
     pub a: u8,
     pub b: u8,
@@ -14,7 +14,7 @@ pub struct Code {
 }
 
 // Whether a code is withdrawn, and its successor. That there is none is not the same as not being withdrawn.
-#[derive(Drop)]
+#[derive(Clone, Copy)]
 pub enum Withdrawal {
     NotWithdrawn,
     NoSuccessor,

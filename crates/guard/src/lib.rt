@@ -1,4 +1,5 @@
 // Checks of a code or a value as it is written: the strict GLN and the withdrawn codes.
+#![tactic(auto)]
 mod code;
 mod gln;
 

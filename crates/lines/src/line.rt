@@ -12,8 +12,8 @@ use ascii::{is_digit, wide};
 const LINE_BYTES: usize = 1033;
 
 pub fn least(a: usize, b: usize) -> usize
-    ensures value { result ≡ min a b }
-    ensures upper_bound { result ≤ a }
+    ensures least { result ≡ min a b }
+    ensures within { result ≤ a }
 {
     if a < b { a } else { b }
 }

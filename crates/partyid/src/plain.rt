@@ -9,7 +9,7 @@ use text::{Kept, Step};
 
 // A code point and how many bytes it takes; length 0 is the refusal.
 #[repr(C)]
-#[derive(Drop)]
+#[derive(Clone, Copy)]
 pub struct PartyidPoint {
     pub code: u32,
     pub len: usize,
@@ -17,7 +17,7 @@ pub struct PartyidPoint {
 
 // The reason, and the length of the text that stands in the caller's area.
 #[repr(C)]
-#[derive(Drop)]
+#[derive(Clone, Copy)]
 pub struct PartyidText {
     pub reason: u32,
     pub len: usize,
@@ -25,7 +25,7 @@ pub struct PartyidText {
 
 // The four numbers of an answer.
 #[repr(C)]
-#[derive(Drop)]
+#[derive(Clone, Copy)]
 pub struct PartyidAnswer {
     pub verdict: u32,
     pub rule: u32,
@@ -35,7 +35,7 @@ pub struct PartyidAnswer {
 
 // 0 not withdrawn, 1 withdrawn with no successor, 2 withdrawn, with the successor's four bytes.
 #[repr(C)]
-#[derive(Drop)]
+#[derive(Clone, Copy)]
 pub struct PartyidCode {
     pub answer: u32,
     pub a: u8,
@@ -46,7 +46,7 @@ pub struct PartyidCode {
 
 // The reason, 0 where the work is done, and how many digits or entries were written.
 #[repr(C)]
-#[derive(Drop)]
+#[derive(Clone, Copy)]
 pub struct PartyidDone {
     pub reason: u32,
     pub count: usize,
@@ -54,7 +54,7 @@ pub struct PartyidDone {
 
 // How many lines were answered, and how many bytes of the text they are.
 #[repr(C)]
-#[derive(Drop)]
+#[derive(Clone, Copy)]
 pub struct PartyidBatch {
     pub count: usize,
     pub used: usize,

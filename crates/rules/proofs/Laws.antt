@@ -1,6 +1,6 @@
 -- The first two bytes of a text, by the tests of the code. Assumes nothing.
 use mathlib.Core.Path.{◌≡◌, refl, sym, ap, ◌∙◌}
-use mathlib.Core.Bool.{Bool, true, false, ◌&&◌, ◌||◌, and_true}
+use mathlib.Core.Bool.{Bool, true, false, ◌&&◌, ◌||◌, and-true}
 use mathlib.Core.List.{List, [], ◌∷◌}
 use Prim.Native.Nat.{ℕ, ◌≤◌, ◌<◌}
 use native.Mathlib.Omega.{arith}
@@ -21,7 +21,7 @@ starts_short (x ∷ y ∷ s) a b h = absurd (omega arith)
 starts_at : (s : List ℕ) (a b : ℕ) → 2 ≤ length s → starts_with (a ∷ b ∷ []) s ≡ eqb (get_or s 0 0) a && eqb (get_or s 1 0) b
 starts_at [] a b h = absurd (omega arith)
 starts_at (x ∷ []) a b h = absurd (omega arith)
-starts_at (x ∷ y ∷ s) a b h = ap (λ (t : Bool). eqb x a && t) (and_true (eqb y b))
+starts_at (x ∷ y ∷ s) a b h = ap (λ (t : Bool). eqb x a && t) (and-true (eqb y b))
 
 pub starts_first : (s : List ℕ) (a b : ℕ) → 2 ≤ length s → get_or s 0 0 ≡ a → eqb (get_or s 1 0) b ≡ starts_with (a ∷ b ∷ []) s
 starts_first s a b h e = sym (starts_at s a b h ∙ rw (eq-eqb _ _ e))

@@ -8,7 +8,7 @@ use super::rule::Rule;
 use ascii::{among, wide};
 
 // The rule that reads a field, or none, or there is no such term (docs/RULES.md, Terms).
-#[derive(Drop)]
+#[derive(Clone, Copy)]
 pub enum Chosen {
     By(Rule),
     NoRule,

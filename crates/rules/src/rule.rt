@@ -6,7 +6,7 @@ use answer::Severity;
 use text::Reading;
 
 // In the order of their numbers; 561 and 562 stand for R056-1 and R056-2.
-#[derive(Drop)]
+#[derive(Clone, Copy)]
 pub enum Rule {
     R40,
     R41,
@@ -28,14 +28,14 @@ pub enum Rule {
 }
 
 // The scheme that a rule goes by: four bytes, or none where it goes by the term alone.
-#[derive(Drop)]
+#[derive(Clone, Copy)]
 pub enum Scheme {
     Four(u8, u8, u8, u8),
     NoScheme,
 }
 
 // What is fixed about a rule; its index is its place in the order of rules, from 0.
-#[derive(Drop)]
+#[derive(Clone, Copy)]
 pub struct Fixed {
     pub index: usize,
     pub number: u32,

@@ -16,7 +16,7 @@ fn window_len(most: usize, kept: usize, fresh: usize) -> usize
     start + least(most - start, fresh)
 }
 
-#[derive(Drop)]
+#[derive(Clone, Copy)]
 pub struct Turned {
     pub kept: usize,
     pub put: usize,

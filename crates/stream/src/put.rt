@@ -18,8 +18,8 @@ fn digit(d: u32) -> u8
 
 // A number of an answer, of at most three digits: a tally's are written by `tally::put_text`, digit by digit.
 fn put_number(out: &mut [u8], at: usize, n: u32) -> usize
-    requires at_in_bounds { at + 3 ≤ length out.old }
-    requires n_bound { n < 1000 }
+    requires room { at + 3 ≤ length out.old }
+    requires small { n < 1000 }
     ensures { Put 3 out.old at (numeral n) result out.new }
 {
     if n < 10 {
@@ -43,8 +43,8 @@ fn put_number(out: &mut [u8], at: usize, n: u32) -> usize
 
 // A number and the byte behind it.
 fn put_field(out: &mut [u8], at: usize, n: u32, behind: u8) -> usize
-    requires at_in_bounds { at + 4 ≤ length out.old }
-    requires n_bound { n < 1000 }
+    requires room { at + 4 ≤ length out.old }
+    requires small { n < 1000 }
     ensures { Put 4 out.old at (field n behind) result out.new }
 {
     let k = put_number(out, at, n);
@@ -54,8 +54,8 @@ fn put_field(out: &mut [u8], at: usize, n: u32, behind: u8) -> usize
 
 // Stores an answer from `at` on, and says where its text ends.
 fn put_answer(a: Answer, out: &mut [u8], at: usize) -> usize
-    requires answer_room_in_bounds { at + answer_room ≤ length out.old }
-    requires rule_bound { a.rule < 1000 }
+    requires room { at + answer_room ≤ length out.old }
+    requires small { a.rule < 1000 }
     ensures { Put answer_room out.old at (answer_text a) result out.new }
 {
     let verdict = a.verdict;

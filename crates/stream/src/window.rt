@@ -13,7 +13,7 @@ use tally::{fewer, left, put_text};
 // The bytes that are read of a line: 8 of its head, and one more of its content than a rule may read.
 const LINE_BYTES: usize = 1033;
 
-#[derive(Drop)]
+#[derive(Clone, Copy)]
 struct Fed {
     used: usize,
     put: usize,
@@ -70,7 +70,7 @@ fn shift(buf: &mut [u8], from: usize, n: usize)
     }
 }
 
-#[derive(Drop)]
+#[derive(Clone, Copy)]
 pub(crate) struct Stepped {
     pub kept: usize,
     pub put: usize,
@@ -91,8 +91,8 @@ pub(crate) fn step(buf: &mut [u8], n: usize, out: &mut [u8], counts: &mut [u32; 
 
 // The answer to a last line that no newline ends, where it has a byte.
 fn last(s: &[u8], out: &mut [u8], counts: &mut [u32; 53]) -> usize
-    requires s_value { upto s.now ≡ length s.now }
-    requires answer_room_in_bounds { answer_room ≤ length out.old }
+    requires one_line { upto s.now ≡ length s.now }
+    requires room { answer_room ≤ length out.old }
     ensures { LastRight s.now counts.old counts.new out.old out.new result }
 {
     if s.len() == 0 {
@@ -104,8 +104,8 @@ fn last(s: &[u8], out: &mut [u8], counts: &mut [u32; 53]) -> usize
 
 // The end: a last line's answer, and the text of the tally.
 pub(crate) fn close(s: &[u8], out: &mut [u8], counts: &mut [u32; 53]) -> usize
-    requires s_value { upto s.now ≡ length s.now }
-    requires closing_room_in_bounds { closing_room ≤ length out.old }
+    requires one_line { upto s.now ≡ length s.now }
+    requires room { closing_room ≤ length out.old }
     ensures { ClosedRight s.now counts.old counts.new out.old out.new result }
 {
     let put = last(s, out, counts);

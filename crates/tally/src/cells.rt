@@ -47,8 +47,8 @@ fn first_cell(number: u32) -> usize
 
 pub(crate) fn cell(a: Answer) -> usize
     requires { Proper a }
-    ensures value { result ≡ cell_of a }
-    ensures upper_bound { result < tally_size }
+    ensures told { result ≡ cell_of a }
+    ensures below { result < tally_size }
 {
     let verdict = a.verdict;
     if a.rule == 0 {

@@ -47,8 +47,8 @@ fn put_field(out: &mut [u8], at: usize, n: u32, behind: u8) -> usize
 
 // A rule's number, and its three counts from place i on.
 fn put_line(number: u32, counts: &[u32], i: usize, out: &mut [u8], at: usize) -> usize
-    requires i_in_bounds { i + 3 ≤ length counts.now }
-    requires at_in_bounds { at + 44 ≤ length out.old }
+    requires three_left { i + 3 ≤ length counts.now }
+    requires room { at + 44 ≤ length out.old }
     ensures { Put 44 out.old at (numbers_text (number ∷ take 3 (drop i counts.now))) result out.new }
 {
     let j = i + 1;
@@ -62,7 +62,7 @@ fn put_line(number: u32, counts: &[u32], i: usize, out: &mut [u8], at: usize) ->
 // The two others.
 fn put_others(counts: &[u32], out: &mut [u8], at: usize) -> usize
     requires counts_len { length counts.now ≡ tally_size }
-    requires at_in_bounds { at + 22 ≤ length out.old }
+    requires room { at + 22 ≤ length out.old }
     ensures { Put 22 out.old at (numbers_text (drop 51 counts.now)) result out.new }
 {
     let k = put_field(out, at, counts[51], b' ');
@@ -71,7 +71,7 @@ fn put_others(counts: &[u32], out: &mut [u8], at: usize) -> usize
 
 fn put_lines(counts: &[u32], out: &mut [u8], at: usize) -> usize
     requires counts_len { length counts.now ≡ tally_size }
-    requires tally_room_in_bounds { at + tally_room ≤ length out.old }
+    requires room { at + tally_room ≤ length out.old }
     ensures { Put tally_room out.old at (tally_text counts.now) result out.new }
 {
     let numbers = NUMBERS;

@@ -146,10 +146,10 @@ module _ (f : List Piece → List Cell) (g : List Piece → List Piece) (k : Pic
     all_split [] b h = (tt, h)
     all_split (x ∷ a) b h = let r = all_split a b h.1 in ((h.0, r.0), r.1)
 
-    bytes_of : (ps : List Piece) → All Q (bytes_of ps) → All Of ps
+    bytes_of_lem : (ps : List Piece) → All Q (bytes_of ps) → All Of ps
     unfolding bytes_of
-    bytes_of [] h = tt
-    bytes_of (p ∷ ps) h = let r = all_split p.bytes (bytes_of ps) h in (r.0, bytes_of ps r.1)
+    bytes_of_lem [] h = tt
+    bytes_of_lem (p ∷ ps) h = let r = all_split p.bytes (bytes_of ps) h in (r.0, bytes_of_lem ps r.1)
 
     of_bytes : (ps : List Piece) → All Of ps → All Q (bytes_of ps)
     unfolding bytes_of
@@ -163,7 +163,7 @@ module _ (f : List Piece → List Cell) (g : List Piece → List Piece) (k : Pic
         (λ t.
         let r = read s t.points t.reads in
         rw (text_taken s t)
-        (of_bytes (g t.points) (k.all Of (λ w. (q, tt)) t.points (bytes_of t.points (subst (All Q) (sym r.bytes) h)))))
+        (of_bytes (g t.points) (k.all Of (λ w. (q, tt)) t.points (bytes_of_lem t.points (subst (All Q) (sym r.bytes) h)))))
         (taken f s)
 
 -- ---- normalising

@@ -24,7 +24,7 @@ pub fn first_bytes(area: &[u8], n: usize) -> &[u8]
 }
 
 // What stands in an area: the reason, and the length of its text.
-#[derive(Drop)]
+#[derive(Clone, Copy)]
 pub struct Kept {
     pub reason: Reason,
     pub len: usize,

@@ -1,4 +1,5 @@
 // UTF-8 text in a working area: one decoding step, the white points, stripping and normalising.
+#![tactic(auto)]
 mod area;
 mod read;
 mod reading;

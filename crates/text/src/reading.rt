@@ -1,6 +1,6 @@
 // How a content is read before it is judged.
 
-#[derive(Drop)]
+#[derive(Clone, Copy)]
 pub enum Reading {
     AsItStands,
     Normalised,

@@ -5,7 +5,7 @@ ghost use Rattle.text.specs.Utf8.{step_of, two, three, four};
 use ascii::wide;
 
 // What the bytes at a place begin with: a code point and how many bytes it takes, or nothing well-formed.
-#[derive(Drop)]
+#[derive(Clone, Copy)]
 pub enum Step {
     Point(u32, usize),
     Refused,

@@ -1,0 +1,27 @@
+use mathlib.Core.Path.{refl, ◌∙◌, sym}
+use native.Mathlib.Omega.{arith}
+use Rattle.ascii.specs.Class.{is_plain}
+use Rattle.ascii.proofs.Class.{all_at}
+use Rattle.accounts.proofs.Remainder.{spell_step, spell_end}
+use Rattle.accounts.proofs.number.leave.Goals as goal
+
+pub loop-i-init : goal.loop-i-init
+loop-i-init c = (omega arith, refl)
+
+pub step-acc-requires : goal.step-acc-requires
+step-acc-requires c =
+    all_at is_plain c.args.text.now c.loop-i.i
+    c.requires c.loop-i-test.true
+
+pub loop-i-preserved : goal.loop-i-preserved
+loop-i-preserved c =
+    let d = c in (
+      omega arith,
+      d.loop-i.invariant.1 ∙ spell_step d.loop-i.acc d.args.text.now d.loop-i.i c.loop-i-test.true
+          ∙ sym (c.step-acc.ensures.on _),
+    )
+
+pub returns : goal.returns
+returns c =
+    let d = c in
+    sym (d.loop-i.invariant.1 ∙ spell_end d.loop-i.acc d.args.text.now d.loop-i.i c.loop-i-test.false)

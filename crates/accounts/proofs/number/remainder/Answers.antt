@@ -1,0 +1,24 @@
+-- `accounts::number::remainder` meets its contract. Assumes nothing.
+use Prim.Native.Nat.{◌-◌}
+use lib.ListN.{length, drop}
+use Rattle.ascii.specs.Class.{is_plain}
+use Rattle.ascii.proofs.Class.{all_drop, all_take}
+use Rattle.accounts.proofs.Remainder.{leaves}
+use Rattle.accounts.proofs.number.remainder.Goals as goal
+
+pub leave-a-requires : goal.leave-a-requires
+leave-a-requires c =
+    let d = c in
+    let from = d.args.from in
+    let s = d.args.text.now in
+    all_take is_plain (length s - from) (drop from s) (all_drop is_plain from s d.requires.2)
+
+pub leave-requires : goal.leave-requires
+leave-requires c =
+    let d = c in
+    all_take is_plain 4 d.args.text.now d.requires.2
+
+pub returns : goal.returns
+returns c =
+    let d = c in
+    leaves d.args.from d.args.text.now _ _ c.leave-a.ensures c.leave-a.ensures

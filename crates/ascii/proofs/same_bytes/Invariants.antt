@@ -1,0 +1,10 @@
+-- What is left of both from a place on is the same exactly when the texts are.
+use Rattle.std.proofs.Common.{length, ◌-◌, ◌≡◌, ◌≤◌, drop}
+use Rattle.ascii.specs.Written.{same_bytes}
+use Rattle.ascii.proofs.same_bytes.Given as goal
+
+abbrev pub invariant-loop-i : goal.invariant-loop-i
+invariant-loop-i l = (l.i ≤ length l.a) × (length l.a ≡ length l.b) × (same_bytes l.a l.b ≡ same_bytes (drop l.i l.a) (drop l.i l.b))
+
+abbrev pub decreases-loop-i : goal.decreases-loop-i
+decreases-loop-i l = length l.a - l.i
