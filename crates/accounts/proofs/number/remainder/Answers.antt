@@ -21,4 +21,4 @@ leave-requires c =
 pub returns : goal.returns
 returns c =
     let d = c in
-    leaves d.args.from d.args.text.now _ _ c.leave-a.ensures c.leave-a.ensures
+    leaves d.args.from d.args.text.now _ _ c.leave-a.ensures c.leave.ensures

@@ -28,4 +28,4 @@ behind-requires c = omega (arith, c.shared_slice_known-5-1.given 0, c.shared_sli
 pub returns : goal.returns
 returns c =
     whole c.args.scheme.now _ _ _ c.requires (c.behind-two.ensures ∙ ap (λ (n : ℕ). n * 256 + get_or c.args.scheme.now 1 0) c.wide.ensures)
-    c.behind-three.ensures c.behind-two.ensures
+    c.behind-three.ensures c.behind.ensures
