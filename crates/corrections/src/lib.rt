@@ -1,4 +1,5 @@
 // Completing a body by its check figure, and the list of all corrections of a refused number.
+#![tactic(auto)]
 mod completing;
 mod done;
 mod entries;

@@ -1,4 +1,5 @@
 // Lines: the answer to a line, and where a line ends.
+#![tactic(auto)]
 mod line;
 mod split;
 

@@ -1,0 +1,34 @@
+-- `corrections::listing::list_by` meets its contract.
+use mathlib.Core.Path.{◌≡◌, sym, ap, ◌∙◌}
+use Rattle.ascii.specs.Pick.{pick}
+use Rattle.answer.proofs.Laws.{is_none, is_given}
+use Rattle.text.specs.declared.area.Text.{Text}
+use Rattle.text.specs.Answer.{readable_of, text_of}
+use Rattle.text.proofs.Laws.{reason_normal, text_area}
+use Rattle.corrections.specs.Outcome.{refused_with}
+use Rattle.checks.specs.Reading.{found_in}
+use Rattle.corrections.specs.Listing.{listed_for}
+use Rattle.corrections.proofs.Outcomes.{works_refused}
+use Rattle.corrections.proofs.listing.list_by.Goals.{After-number}
+use Rattle.corrections.proofs.listing.list_by.Goals as goal
+
+why : (t : After-number) → t.normalize_into-kept.result.reason ≡ readable_of t.args.content.now
+why t = ap (λ (x : Text). x.reason) t.normalize_into-kept.ensures ∙ reason_normal t.args.content.now
+
+pub slice_bounds-first_bytes-end : goal.slice_bounds-first_bytes-end
+slice_bounds-first_bytes-end c =
+    let t = c in
+    rw (ap (λ (x : Text). x.bytes) t.normalize_into-kept.ensures) (sym (text_area t.args.content.now))
+
+pub returns-then-number-eq0 : goal.returns-then-number-eq0
+unfolding listed_for found_in pick
+returns-then-number-eq0 c =
+    let t = c in
+    let e = c.first_bytes.ensures ∙ ap (λ (x : Text). text_of x) t.normalize_into-kept.ensures in
+    rw (rw (why (goal.at.returns-then-number-eq0 t).After-number) at (is_none t.normalize_into-kept.result.reason t.number.ensures c.if-number-eq0.true), ← e) c.list_text.ensures
+
+pub returns : goal.returns
+unfolding listed_for found_in pick
+returns c =
+    let t = c in
+    works_refused (readable_of t.args.content.now) _ (rw (rw (why (goal.at.returns t).After-number) at (is_given t.normalize_into-kept.result.reason t.number.ensures c.if-number-eq0.false))) (c.refused.ensures ∙ ap (λ r. (refused_with r).says) (why (goal.at.returns t).After-number))
