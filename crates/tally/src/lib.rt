@@ -1,4 +1,5 @@
 // A tally: 53 counts over lines, by rule and verdict (docs/RULES.md, Counting lines).
+#![tactic(auto)]
 mod cells;
 mod counts;
 mod text;

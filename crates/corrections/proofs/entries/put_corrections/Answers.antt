@@ -27,7 +27,7 @@ pub put_exchanges-requires : goal.put_exchanges-requires
 put_exchanges-requires c =
     let a = c in
     let p = c.put_replacements-mid in
-    record { placed = a.requires.placed; summed = a.requires.summed; room = omega (arith, room (goal.at.put_exchanges-requires a).Start, p.ensures.ends, p.ensures.few, p.auto.1.1.1.1.0) }
+    record { placed = a.requires.placed; summed = a.requires.summed; room = omega (arith, room (goal.at.put_exchanges-requires a).Start, p.ensures.ends, p.ensures.few, p.auto.out) }
 
 pub returns : goal.returns
 unfolding corrections

@@ -13,7 +13,7 @@ unfolding only
 returns-then-d-lt10 c =
     let a = c in
     let n = length a.args.s.now in
-    put_row n a.args.out.now a.args.at (a.args.at + n - a.args.at) (a.args.at + n) c.put_replaced.new.0 _ _ c.put_replaced.ensures (c.digit_at-d.ensures ∙ rw (lt-ltb _ 10 c.if-d-lt10.true)) (simp length-set) refl (omega arith)
+    put_row n a.args.out.now a.args.at (a.args.at + n - a.args.at) (a.args.at + n) c.put_replaced.new.row _ _ c.put_replaced.ensures (c.digit_at-d.ensures ∙ rw (lt-ltb _ 10 c.if-d-lt10.true)) (simp length-set) refl (omega arith)
 
 pub returns : goal.returns
 unfolding only

@@ -6,24 +6,24 @@ use Rattle.corrections.proofs.five.five_of.Goals as goal
 
 pub returns-then-goes_by : goal.returns-then-goes_by
 unfolding five_of pick
-returns-then-goes_by c = rw (sym c.Goes-by.ensures ∙ c.if-goes_by.true)
+returns-then-goes_by c = rw (sym c.goes_by.ensures ∙ c.if-goes_by.true)
 
 pub returns-then-goes_by-2 : goal.returns-then-goes_by-2
 unfolding five_of pick
-returns-then-goes_by-2 c = rw (sym c.Goes-by.ensures ∙ c.if-goes_by.false, sym c.goes_by-2.ensures ∙ c.if-goes_by-2.true)
+returns-then-goes_by-2 c = rw (sym c.goes_by.ensures ∙ c.if-goes_by.false, sym c.goes_by-2.ensures ∙ c.if-goes_by-2.true)
 
 pub returns-then-goes_by-3 : goal.returns-then-goes_by-3
 unfolding five_of pick
-returns-then-goes_by-3 c = rw (sym c.Goes-by.ensures ∙ c.if-goes_by.false, sym c.goes_by-2.ensures ∙ c.if-goes_by-2.false, sym c.goes_by-3.ensures ∙ c.if-goes_by-3.true)
+returns-then-goes_by-3 c = rw (sym c.goes_by.ensures ∙ c.if-goes_by.false, sym c.goes_by-2.ensures ∙ c.if-goes_by-2.false, sym c.goes_by-3.ensures ∙ c.if-goes_by-3.true)
 
 pub returns-then-goes_by-4 : goal.returns-then-goes_by-4
 unfolding five_of pick
-returns-then-goes_by-4 c = rw (sym c.Goes-by.ensures ∙ c.if-goes_by.false, sym c.goes_by-2.ensures ∙ c.if-goes_by-2.false, sym c.goes_by-3.ensures ∙ c.if-goes_by-3.false, sym c.goes_by-4.ensures ∙ c.if-goes_by-4.true)
+returns-then-goes_by-4 c = rw (sym c.goes_by.ensures ∙ c.if-goes_by.false, sym c.goes_by-2.ensures ∙ c.if-goes_by-2.false, sym c.goes_by-3.ensures ∙ c.if-goes_by-3.false, sym c.goes_by-4.ensures ∙ c.if-goes_by-4.true)
 
 pub returns-then-goes_by-5 : goal.returns-then-goes_by-5
 unfolding five_of pick
-returns-then-goes_by-5 c = rw (sym c.Goes-by.ensures ∙ c.if-goes_by.false, sym c.goes_by-2.ensures ∙ c.if-goes_by-2.false, sym c.goes_by-3.ensures ∙ c.if-goes_by-3.false, sym c.goes_by-4.ensures ∙ c.if-goes_by-4.false, sym c.goes_by-5.ensures ∙ c.if-goes_by-5.true)
+returns-then-goes_by-5 c = rw (sym c.goes_by.ensures ∙ c.if-goes_by.false, sym c.goes_by-2.ensures ∙ c.if-goes_by-2.false, sym c.goes_by-3.ensures ∙ c.if-goes_by-3.false, sym c.goes_by-4.ensures ∙ c.if-goes_by-4.false, sym c.goes_by-5.ensures ∙ c.if-goes_by-5.true)
 
 pub returns : goal.returns
 unfolding five_of pick
-returns c = rw (sym c.Goes-by.ensures ∙ c.if-goes_by.false, sym c.goes_by-2.ensures ∙ c.if-goes_by-2.false, sym c.goes_by-3.ensures ∙ c.if-goes_by-3.false, sym c.goes_by-4.ensures ∙ c.if-goes_by-4.false, sym c.goes_by-5.ensures ∙ c.if-goes_by-5.false)
+returns c = rw (sym c.goes_by.ensures ∙ c.if-goes_by.false, sym c.goes_by-2.ensures ∙ c.if-goes_by-2.false, sym c.goes_by-3.ensures ∙ c.if-goes_by-3.false, sym c.goes_by-4.ensures ∙ c.if-goes_by-4.false, sym c.goes_by-5.ensures ∙ c.if-goes_by-5.false)

@@ -45,7 +45,9 @@ module _ (u : After-share) (d : ℕ) where
 
 -- what the loop's test found
 found : (t : After-passes)
-    → total_passes t.figure-figure.result (t.args.sum - t.share.result + new t t.loop-d.d) ≡ t.passes.result
+    → total_passes t.figure-figure.result
+        (t.args.sum - t.share.result + counted (figure_by t.figure-figure.result).fold (get_or t.args.weights.now (length t.args.s.now - 1 - t.args.i) 0 * t.loop-d.d))
+    ≡ t.passes.result
 found t =
     let u = t in
     ap (λ r. total_passes u.figure-figure.result (u.args.sum - u.share.result + r)) (sym t.share-in-loop-d.ensures) ∙ sym t.passes.ensures
@@ -83,7 +85,7 @@ returns-then-passes c =
     let u = c in
     let d = c.loop-d.d in
     let l = c.loop-d-test.true in
-    fixes_hit u.args.kind u.args.s.now u.args.i d u.requires.inside l (sym (test u d l) ∙ found (goal.at.returns-then-passes c).After-passes ∙ c.if-passes.true)
+    fixes_hit u.args.kind u.args.s.now u.args.i d u.requires.inside l (sym (test (goal.at.returns-then-passes c).After-share d l) ∙ found (goal.at.returns-then-passes c).After-passes ∙ c.if-passes.true)
 
 pub loop-d-preserved : goal.loop-d-preserved
 loop-d-preserved c = (omega arith, below_more _ _ c.loop-d.invariant.1 (found (goal.at.loop-d-preserved c).After-passes ∙ c.if-passes.false))
@@ -91,4 +93,4 @@ loop-d-preserved c = (omega arith, below_more _ _ c.loop-d.invariant.1 (found (g
 pub returns : goal.returns
 returns c =
     let u = c in
-    fixes_none u.args.kind u.args.s.now u.args.i _ c.loop-d-test.false (λ x h. sym (test u x h) ∙ c.loop-d.invariant.1 x (omega arith))
+    fixes_none u.args.kind u.args.s.now u.args.i _ c.loop-d-test.false (λ x h. sym (test (goal.at.returns c).After-share x h) ∙ c.loop-d.invariant.1 x (omega arith))
