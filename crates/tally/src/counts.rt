@@ -65,7 +65,7 @@ fn raise(counts: &mut [u32], cell: usize)
     requires { cell < length counts.old }
     ensures { counts.new ≡ raised counts.old cell }
 {
-    counts[cell] = std::num::wrapping_add_u32(counts[cell], 1);
+    counts[cell] = counts[cell].wrapping_add(1);
 }
 
 // Feeds a line to a tally of which the caller knows whether it is full: a loop over lines need not add up the counts for each.

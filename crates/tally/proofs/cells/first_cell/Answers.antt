@@ -96,5 +96,5 @@ past n f40 f41 f42 f43 f44 f45 f46 f47 f49 f50 f52 f53 f54 f55 f57 f561 =
 pub returns-in_default : goal.returns-in_default
 returns-in_default c =
     let n = c.args.number in
-    let e = past n c.in-40.rest.0.0.0.0.0.0.0.0.0.0.0.0.0.0.1 c.in-40.rest.0.0.0.0.0.0.0.0.0.0.0.0.0.1 c.in-40.rest.0.0.0.0.0.0.0.0.0.0.0.0.1 c.in-40.rest.0.0.0.0.0.0.0.0.0.0.0.1 c.in-40.rest.0.0.0.0.0.0.0.0.0.0.1 c.in-40.rest.0.0.0.0.0.0.0.0.0.1 c.in-40.rest.0.0.0.0.0.0.0.0.1 c.in-40.rest.0.0.0.0.0.0.0.1 c.in-40.rest.0.0.0.0.0.0.1 c.in-40.rest.0.0.0.0.0.1 c.in-40.rest.0.0.0.0.1 c.in-40.rest.0.0.0.1 c.in-40.rest.0.0.1 c.in-40.rest.0.1 c.in-40.rest.1 c.if-number-eq561.false in
+    let e = past n c.in_default.in_default-own.rest.0.0.0.0.0.0.0.0.0.0.0.0.0.0.1 c.in_default.in_default-own.rest.0.0.0.0.0.0.0.0.0.0.0.0.0.1 c.in_default.in_default-own.rest.0.0.0.0.0.0.0.0.0.0.0.0.1 c.in_default.in_default-own.rest.0.0.0.0.0.0.0.0.0.0.0.1 c.in_default.in_default-own.rest.0.0.0.0.0.0.0.0.0.0.1 c.in_default.in_default-own.rest.0.0.0.0.0.0.0.0.0.1 c.in_default.in_default-own.rest.0.0.0.0.0.0.0.0.1 c.in_default.in_default-own.rest.0.0.0.0.0.0.0.1 c.in_default.in_default-own.rest.0.0.0.0.0.0.1 c.in_default.in_default-own.rest.0.0.0.0.0.1 c.in_default.in_default-own.rest.0.0.0.0.1 c.in_default.in_default-own.rest.0.0.0.1 c.in_default.in_default-own.rest.0.0.1 c.in_default.in_default-own.rest.0.1 c.in_default.in_default-own.rest.1 c.if-number-eq561.false in
     last_cell n e c.requires

@@ -1,7 +1,7 @@
--- `tally::counts::raise` counts one more.
+use Rattle.std.proofs.Common.{refl}
 use Rattle.tally.specs.Inner.{raised}
 use Rattle.tally.proofs.counts.raise.Goals as goal
 
 pub returns : goal.returns
 unfolding raised
-returns c = rw c.wrapping_add_u32.ensures
+returns c = refl

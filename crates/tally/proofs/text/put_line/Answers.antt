@@ -14,4 +14,4 @@ pub put_field-requires : goal.put_field-requires
 put_field-requires c = put_room c.put_field-n.ensures 11 (put_room c.put_field-m.ensures 22 (put_room c.put_field-k.ensures 33 (omega arith)))
 
 pub returns : goal.returns
-returns c = put_row c.args.number c.args.counts.now c.args.i (omega arith) (omega arith) c.put_field-k.ensures c.put_field-m.ensures c.put_field-n.ensures c.put_field-k.ensures
+returns c = put_row c.args.number c.args.counts.now c.args.i (omega arith) (omega arith) c.put_field-k.ensures c.put_field-m.ensures c.put_field-n.ensures c.put_field.ensures

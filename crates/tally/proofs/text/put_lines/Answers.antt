@@ -18,7 +18,7 @@ pub put_others-requires : goal.put_others-requires
 put_others-requires c = record { counts_len = c.requires.counts_len; room = laying_room c.loop-i.invariant (omega arith) }
 
 pub shape_of-out : goal.shape_of-out
-shape_of-out c = c.put_others.auto.1.0 ∙ laying_size c.loop-i.invariant (omega arith)
+shape_of-out c = c.put_others.auto.out ∙ laying_size c.loop-i.invariant (omega arith)
 
 pub returns : goal.returns
 returns c = laying_others c.loop-i.invariant (omega arith) (omega (arith, c.loop-i-test.false)) c.put_others.ensures

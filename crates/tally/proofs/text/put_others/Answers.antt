@@ -8,4 +8,4 @@ pub put_field-requires : goal.put_field-requires
 put_field-requires c = put_room c.put_field-k.ensures 11 (omega arith)
 
 pub returns : goal.returns
-returns c = put_two c.args.counts.now (omega arith) (omega arith) c.put_field-k.ensures c.put_field-k.ensures
+returns c = put_two c.args.counts.now (omega arith) (omega arith) c.put_field-k.ensures c.put_field.ensures
