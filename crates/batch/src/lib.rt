@@ -1,4 +1,5 @@
 // Many lines at once, answered in numbers.
+#![tactic(auto)]
 mod answers;
 mod numbers;
 mod tallied;

@@ -1,4 +1,5 @@
 // The line program: a stream of lines, answered and counted window by window.
+#![tactic(auto)]
 mod program;
 mod put;
 mod window;
