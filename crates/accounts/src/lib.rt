@@ -1,5 +1,6 @@
 // Identifiers of bank accounts: the IBAN and the creditor identifier.
 #![tactic(auto)]
+
 mod account;
 mod number;
 

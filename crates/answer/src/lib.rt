@@ -1,5 +1,6 @@
 // The answer of a check (docs/RULES.md, The answer): one record by value, of verdict, rule number, severity and reason.
 #![tactic(auto)]
+
 mod reason;
 mod record;
 mod severity;

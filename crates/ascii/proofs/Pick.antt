@@ -1,5 +1,5 @@
 -- One of two by a test t, which a function found to be the definition's test u. Assumes nothing.
-use mathlib.Core.Path.{◌≡◌, refl}
+use mathlib.Core.Path.{◌≡◌}
 use mathlib.Core.Bool.{Bool, true, false}
 use Rattle.ascii.specs.Pick.{pick}
 

@@ -1,5 +1,6 @@
 // The classes of a byte or a code point: ASCII digits and letters, and lists of them.
 #![tactic(auto)]
+
 ghost use Rattle.std.specs.Prelude.{◌≡◌};
 ghost use Rattle.ascii.specs.Class.{is_digit, is_letter, is_plain, among};
 ghost use Rattle.ascii.specs.Written.{same_bytes};

@@ -1,5 +1,6 @@
 // Many lines at once, answered in numbers.
 #![tactic(auto)]
+
 mod answers;
 mod numbers;
 mod tallied;

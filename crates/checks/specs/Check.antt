@@ -4,7 +4,6 @@ use Rattle.ascii.specs.Pick.{pick}
 use Rattle.ascii.specs.Written.{bytes, same_bytes}
 use Rattle.answer.specs.declared.record.Answer.{Answer}
 use Rattle.answer.specs.declared.reason.Reason.TheVariants.{Term}
-use Rattle.answer.specs.declared.severity.Severity.{Severity}
 use Rattle.answer.specs.declared.severity.Severity.TheVariants.{NoSeverity}
 use Rattle.answer.specs.Answers.{no_rule, refused}
 use Rattle.text.specs.declared.reading.Reading.TheVariants.{AsItStands, Stripped}

@@ -1,5 +1,6 @@
 // The one way from a content to an answer, and the checks that go it.
 #![tactic(auto)]
+
 mod answers;
 mod judge;
 mod reading;

@@ -1,5 +1,6 @@
 // Completing a body by its check figure, and the list of all corrections of a refused number.
 #![tactic(auto)]
+
 mod completing;
 mod done;
 mod entries;

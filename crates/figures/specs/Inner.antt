@@ -1,5 +1,5 @@
 -- What the code finds its answers from. No rule cites this; that it says what the rules say is proved.
-use Rattle.std.specs.Prelude.{Bool, true, false, not, ◌&&◌, List, [], ◌∷◌, ◌++◌, ℕ, zero, suc, ◌+◌, ◌*◌, ◌/◌, ◌%◌, eqb, leb, length, get_or}
+use Rattle.std.specs.Prelude.{Bool, false, not, ◌&&◌, List, [], ◌∷◌, ◌++◌, ℕ, zero, suc, ◌+◌, ◌*◌, ◌/◌, ◌%◌, eqb, leb, length, get_or}
 use Prim.Native.Char.{code}
 use Rattle.ascii.specs.Pick.{pick}
 use Rattle.forms.specs.Form.{Form, class_at, wrong, fault_of}

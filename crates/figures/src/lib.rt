@@ -1,5 +1,6 @@
 // Check figures: weighted totals of digits, and the rules that have them.
 #![tactic(auto)]
+
 mod finding;
 mod kind;
 mod rules;

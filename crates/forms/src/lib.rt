@@ -1,5 +1,6 @@
 // What a text looks like: a form is data, and one function finds the first fault.
 #![tactic(auto)]
+
 mod form;
 mod table;
 

@@ -1,5 +1,6 @@
 // Lines: the answer to a line, and where a line ends.
 #![tactic(auto)]
+
 mod line;
 mod split;
 

@@ -1,5 +1,6 @@
 // The library for programs in C and Rust: every public function, on any bytes, with numbers for its answer.
 #![tactic(auto)]
+
 mod answers;
 mod checked;
 mod content;

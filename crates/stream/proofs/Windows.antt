@@ -22,7 +22,7 @@ use Rattle.lines.proofs.Heads.{drop_take}
 use Rattle.lines.proofs.Splits.{by, Open, upto_le, split_none, ended_line, among_line, among_open, lines_open, fronted_alone}
 use Rattle.lines.proofs.Feeding.{First, Through, through_none, through_line, through_within, through_ended, Said, said_none, said_more, said_size, part_tail, open_left}
 use Rattle.tally.specs.declared.counts.Fed.{Fed}
-use Rattle.tally.specs.Tally.{fed, replies, after}
+use Rattle.tally.specs.Tally.{replies, after}
 use Rattle.tally.specs.Text.{tally_text, tally_room}
 use Rattle.tally.specs.Inner.{left_in}
 use Rattle.tally.proofs.Feeding.{fed_by_left}

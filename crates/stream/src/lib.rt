@@ -1,5 +1,6 @@
 // The line program: a stream of lines, answered and counted window by window.
 #![tactic(auto)]
+
 mod program;
 mod put;
 mod window;

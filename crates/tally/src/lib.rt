@@ -1,5 +1,6 @@
 // A tally: 53 counts over lines, by rule and verdict (docs/RULES.md, Counting lines).
 #![tactic(auto)]
+
 mod cells;
 mod counts;
 mod text;

@@ -1,5 +1,6 @@
 // UTF-8 text in a working area: one decoding step, the white points, stripping and normalising.
 #![tactic(auto)]
+
 mod area;
 mod read;
 mod reading;

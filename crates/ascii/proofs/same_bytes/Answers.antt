@@ -1,4 +1,4 @@
-use Rattle.std.proofs.Common.{sym, refl, ◌∙◌, arith}
+use Rattle.std.proofs.Common.{sym, ◌∙◌, arith}
 use Rattle.ascii.proofs.Same.{same_length, same_next, same_not, same_end}
 use Rattle.ascii.proofs.same_bytes.Goals as goal
 

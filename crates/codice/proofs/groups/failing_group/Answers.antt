@@ -1,7 +1,5 @@
 -- `codice::groups::failing_group` meets its contract: the groups one after another. Assumes nothing.
 use mathlib.Core.Path.{refl, ◌∙◌}
-use mathlib.Core.List.{List}
-use Prim.Native.Nat.{ℕ}
 use native.Mathlib.Omega.{arith}
 use lib.ListN.{drop}
 use Rattle.ascii.specs.Class.{is_digit, is_letter}

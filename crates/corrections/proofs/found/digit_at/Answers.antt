@@ -1,5 +1,4 @@
 use mathlib.Core.Path.{◌≡◌, refl, ◌∙◌, sym, ap}
-use mathlib.Core.Bool.{false}
 use Prim.Native.Nat.{ℕ, ◌+◌, ◌-◌, ◌*◌, ◌≤◌, ◌<◌}
 use borrow.Author.Count.{below_more}
 use lib.ListN.{length, get_or}
@@ -46,7 +45,7 @@ module _ (u : After-share) (d : ℕ) where
 -- what the loop's test found
 found : (t : After-passes)
     → total_passes t.figure-figure.result
-        (t.args.sum - t.share.result + counted (figure_by t.figure-figure.result).fold (get_or t.args.weights.now (length t.args.s.now - 1 - t.args.i) 0 * t.loop-d.d))
+    (t.args.sum - t.share.result + counted (figure_by t.figure-figure.result).fold (get_or t.args.weights.now (length t.args.s.now - 1 - t.args.i) 0 * t.loop-d.d))
     ≡ t.passes.result
 found t =
     let u = t in

@@ -2,7 +2,6 @@
 use mathlib.Core.Path.{sym, ◌∙◌}
 use native.Mathlib.Omega.{arith}
 use Rattle.rules.proofs.Keys.{no_scheme, tax_address, tax_elsewhere, other_scheme}
-use Rattle.rules.proofs.choice.at_term.Lts as lts
 use Rattle.rules.proofs.choice.at_term.Goals as goal
 
 pub returns-then-scheme-ne4 : goal.returns-then-scheme-ne4

@@ -8,7 +8,6 @@ use Rattle.ascii.specs.Class.{among}
 use Rattle.rules.specs.declared.rule.Rule.TheVariants.{R562}
 use Rattle.rules.specs.declared.choice.Chosen.TheVariants.{By, NoTerm}
 use Rattle.rules.specs.Choice.{vat_terms, scheme_terms, at_term, rule_for}
-use Rattle.rules.proofs.choice.rule_for.Lts as lts
 use Rattle.rules.proofs.choice.rule_for.Goals as goal
 
 module _ (s : List ℕ) (term : ℕ) where
