@@ -1,19 +1,15 @@
 // Withdrawn codes.
 use guard::Withdrawal;
-use libc::STDOUT_FILENO;
+use std::io;
 
-pub fn show_code(code: &[u8]) {
+pub fn show_code(rt: &impl Print, code: &[u8]) -> io::Result<()> {
     match guard::withdrawn(code) {
-        Withdrawal::NotWithdrawn => {
-            io::write_all(STDOUT_FILENO, b" not withdrawn");
-        }
-        Withdrawal::NoSuccessor => {
-            io::write_all(STDOUT_FILENO, b" withdrawn");
-        }
+        Withdrawal::NotWithdrawn => rt.write_all(b" not withdrawn"),
+        Withdrawal::NoSuccessor => rt.write_all(b" withdrawn"),
         Withdrawal::Successor(s) => {
             let four = [s.a, s.b, s.c, s.d];
-            io::write_all(STDOUT_FILENO, b" withdrawn, use ");
-            io::write_all(STDOUT_FILENO, &four);
+            rt.write_all(b" withdrawn, use ")?;
+            rt.write_all(&four)
         }
     }
 }

@@ -1,28 +1,25 @@
 // Bytes as they are written.
-use libc::STDOUT_FILENO;
+use std::io;
 
 // A byte as it is written: itself where it is plain ASCII, else escaped.
-fn show_byte(b: u8) {
+fn show_byte(rt: &impl Print, b: u8) -> io::Result<()> {
     let shown = [b; 1];
     if b < 0x20 {
-        io::write_all(STDOUT_FILENO, b"\\");
-        io::print_hex(STDOUT_FILENO, b as u64, 2);
-        return;
+        return print!(rt; "\\{b:02x}");
     }
     if b < 0x7f {
         if b != b'\\' {
-            io::write_all(STDOUT_FILENO, &shown);
-            return;
+            return rt.write_all(&shown);
         }
     }
-    io::write_all(STDOUT_FILENO, b"\\");
-    io::print_hex(STDOUT_FILENO, b as u64, 2);
+    print!(rt; "\\{b:02x}")
 }
 
-pub fn show(s: &[u8]) {
+pub fn show(rt: &impl Print, s: &[u8]) -> io::Result<()> {
     let mut i: usize = 0;
     while i < s.len() {
-        show_byte(s[i]);
+        show_byte(rt, s[i])?;
         i += 1;
     }
+    Ok(())
 }

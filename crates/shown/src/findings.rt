@@ -3,17 +3,15 @@ use super::numbers::number;
 use super::words::{behind, decimal, word_end};
 use figures::Finding;
 use forms::Fault;
-use libc::STDOUT_FILENO;
+use std::io;
 
-fn show_fault(fault: Fault) {
+fn show_fault(rt: &impl Print, fault: Fault) -> io::Result<()> {
     match fault {
-        Fault::Fits => {}
-        Fault::Length => {
-            io::write_all(STDOUT_FILENO, b" length");
-        }
+        Fault::Fits => Ok(()),
+        Fault::Length => rt.write_all(b" length"),
         Fault::At(place) => {
-            io::write_all(STDOUT_FILENO, b" at");
-            number(place as u64);
+            rt.write_all(b" at")?;
+            number(rt, place as u64)
         }
     }
 }
@@ -30,14 +28,15 @@ fn figure(rule: u32, text: &[u8]) -> Finding {
 }
 
 // The number of a rule with a check figure, and a text: the reason, and what is wrong with the form.
-pub fn show_figure(field: &[u8]) {
+pub fn show_figure(rt: &impl Print, field: &[u8]) -> io::Result<()> {
     let rule_end = word_end(field);
     let start = behind(field);
     let n = field.len();
     let found = figure(decimal(&field[0..rule_end]), &field[start..n]);
     let reason = figures::reason(found);
-    number(reason.number() as u64);
+    number(rt, reason.number() as u64)?;
     if let Finding::Unfit(fault) = found {
-        show_fault(fault);
+        show_fault(rt, fault)?;
     }
+    Ok(())
 }

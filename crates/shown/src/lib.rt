@@ -1,4 +1,6 @@
 // What the commands of examples are made of: the words of a line, and what is shown of a text, a finding or a code.
+#![tactic(auto)]
+
 mod codes;
 mod escaped;
 mod findings;

@@ -1,7 +1,6 @@
 // A number behind a space.
-use libc::STDOUT_FILENO;
+use std::io;
 
-pub fn number(n: u64) {
-    io::write_all(STDOUT_FILENO, b" ");
-    io::print_decimal(STDOUT_FILENO, n);
+pub fn number(rt: &impl Print, n: u64) -> io::Result<()> {
+    print!(rt; " {n}")
 }
