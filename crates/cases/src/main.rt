@@ -1,4 +1,8 @@
 // The cases of docs/RULES.md and others, on both sides of each rule.
-fn main() {
-    examples::run_input();
+#![tactic(auto)]
+
+use std::io;
+
+fn main(rt: HostRuntime) -> io::Result<()> {
+    examples::run_input(&rt)
 }

@@ -4,21 +4,21 @@ use super::many::show_batch;
 use super::tallies::{fed, show_counts, show_tallied};
 use super::work::show_work;
 use answer::Answer;
-use libc::STDOUT_FILENO;
 use shown::{behind, decimal, number, show_code, show_figure, show_steps, show_text, word_end};
+use std::io;
 
-fn show_answer(a: Answer) {
+fn show_answer(rt: &impl Print, a: Answer) -> io::Result<()> {
     let verdict = a.verdict;
     let severity = a.severity;
     let reason = a.reason;
-    number(verdict.number() as u64);
-    number(a.rule as u64);
-    number(severity.number() as u64);
-    number(reason.number() as u64);
+    number(rt, verdict.number() as u64)?;
+    number(rt, a.rule as u64)?;
+    number(rt, severity.number() as u64)?;
+    number(rt, reason.number() as u64)
 }
 
 // A field: its scheme, its term and its content, parted by spaces.
-fn show_check(field: &[u8]) {
+fn show_check(rt: &impl Print, field: &[u8]) -> io::Result<()> {
     let scheme_end = word_end(field);
     let start = behind(field);
     let n = field.len();
@@ -27,54 +27,55 @@ fn show_check(field: &[u8]) {
     let content = behind(rest);
     let m = rest.len();
     let term = decimal(&rest[0..term_end]);
-    show_answer(checks::check(&field[0..scheme_end], term, &rest[content..m]));
+    show_answer(
+        rt,
+        checks::check(&field[0..scheme_end], term, &rest[content..m]),
+    )
 }
 
 // A strict GLN: its scheme and its content.
-fn show_gln(field: &[u8]) {
+fn show_gln(rt: &impl Print, field: &[u8]) -> io::Result<()> {
     let end = word_end(field);
     let start = behind(field);
     let n = field.len();
-    show_answer(checks::eas_value(&field[0..end], &field[start..n]));
+    show_answer(rt, checks::eas_value(&field[0..end], &field[start..n]))
 }
 
 // A line that is fed to a tally: its answer, and the counts after it.
-fn show_fed(field: &[u8]) {
+fn show_fed(rt: &impl Print, field: &[u8]) -> io::Result<()> {
     let done = fed(field);
     let counts = done.counts;
-    show_answer(done.answer);
-    show_counts(&counts);
+    show_answer(rt, done.answer)?;
+    show_counts(rt, &counts)
 }
 
 // Which function a command names.
-fn call(command: u8, content: &[u8]) {
+fn call(rt: &impl Print, command: u8, content: &[u8]) -> io::Result<()> {
     match command {
-        b'n' => show_text(text::normalize_space(content)),
-        b's' => show_text(text::strip(content)),
-        b'd' => show_steps(content),
-        b'c' => show_check(content),
-        b'f' => show_figure(content),
-        b'i' => show_answer(checks::is_valid_iban_checksum(content)),
-        b'r' => show_answer(checks::is_valid_creditor_identifier(content)),
-        b'g' => show_gln(content),
-        b'w' => show_code(content),
-        b'a' => show_answer(lines::answer_line(content)),
-        b'b' => show_batch(content),
-        b't' => show_tallied(content),
-        b'T' => show_fed(content),
-        b'k' | b'l' => show_work(command, content),
-        _ => {
-            io::write_all(STDOUT_FILENO, b" no such command");
-        }
+        b'n' => show_text(rt, text::normalize_space(content)),
+        b's' => show_text(rt, text::strip(content)),
+        b'd' => show_steps(rt, content),
+        b'c' => show_check(rt, content),
+        b'f' => show_figure(rt, content),
+        b'i' => show_answer(rt, checks::is_valid_iban_checksum(content)),
+        b'r' => show_answer(rt, checks::is_valid_creditor_identifier(content)),
+        b'g' => show_gln(rt, content),
+        b'w' => show_code(rt, content),
+        b'a' => show_answer(rt, lines::answer_line(content)),
+        b'b' => show_batch(rt, content),
+        b't' => show_tallied(rt, content),
+        b'T' => show_fed(rt, content),
+        b'k' | b'l' => show_work(rt, command, content),
+        _ => rt.write_all(b" no such command"),
     }
 }
 
-pub(crate) fn run(line: &[u8]) {
+pub(crate) fn run(rt: &impl Print, line: &[u8]) -> io::Result<()> {
     if line.len() == 0 {
-        return;
+        return Ok(());
     }
     let mut area = [0u8; 2048];
     let start = behind(line);
     let n = unescape(&line[start..], &mut area);
-    call(line[0], &area[0..n]);
+    call(rt, line[0], &area[0..n])
 }

@@ -1,5 +1,7 @@
 // Runs examples: a line is a command, a space and a content; it is written again with its answer behind it.
-ghost use Rattle.std.specs.Prelude.{◌≡◌, ◌≤◌, length};
+#![tactic(auto)]
+
+ghost use Rattle.std.specs.Prelude.{◌≡◌, ◌≤◌, length, IfOk};
 
 mod commands;
 mod escape;
@@ -7,7 +9,8 @@ mod many;
 mod tallies;
 mod work;
 
-use libc::{STDIN_FILENO, STDOUT_FILENO};
+use std::io;
+use std::io::Read;
 
 // Where the line that begins at `at` ends: at its newline, or at the end.
 fn line_end(s: &[u8], at: usize) -> usize
@@ -24,17 +27,18 @@ fn line_end(s: &[u8], at: usize) -> usize
     i
 }
 
-fn run_all(s: &[u8]) {
+fn run_all(rt: &impl Print, s: &[u8]) -> io::Result<()> {
     let mut at: usize = 0;
     while at < s.len() {
         let end = line_end(s, at);
         let line = &s[at..end];
-        io::write_all(STDOUT_FILENO, line);
-        io::write_all(STDOUT_FILENO, b" =>");
-        commands::run(line);
-        io::write_all(STDOUT_FILENO, b"\n");
+        rt.write_all(line)?;
+        rt.write_all(b" =>")?;
+        commands::run(rt, line)?;
+        rt.write_all(b"\n")?;
         at = end + 1;
     }
+    Ok(())
 }
 
 // Room for all examples. The length in the promise is what lending the array asks for.
@@ -44,9 +48,25 @@ fn room() -> [u8; 524288]
     [0; 524288]
 }
 
+// Reads until the area is full or the input ends; the length of what was read comes back.
+fn read_full(input: &mut impl Read, out: &mut [u8]) -> io::Result<usize>
+    ensures { IfOk result (λ n. n ≤ length out.new) }
+{
+    let mut n: usize = 0;
+    while n < out.len() {
+        let fresh = input.read(&mut out[n..])?;
+        if fresh == 0 {
+            return Ok(n);
+        }
+        n += fresh;
+    }
+    Ok(n)
+}
+
 // All examples of standard input.
-pub fn run_input() {
+pub fn run_input(rt: &(impl Input + Print)) -> io::Result<()> {
+    let mut input = rt.reader();
     let mut buf = room();
-    let n = io::read_full(STDIN_FILENO, &mut buf);
-    run_all(&buf[..n]);
+    let n = read_full(&mut input, &mut buf)?;
+    run_all(rt, &buf[..n])
 }

@@ -3,33 +3,34 @@ ghost use Rattle.std.specs.Prelude.{◌≤◌};
 
 use super::many::show_numbers;
 use shown::{at_most, behind, decimal, number, word_end};
+use std::io;
 use tally::Fed;
 
-pub(crate) fn show_counts(counts: &[u32; 53]) {
-    show_numbers(counts);
+pub(crate) fn show_counts(rt: &impl Print, counts: &[u32; 53]) -> io::Result<()> {
+    show_numbers(rt, counts)
 }
 
 // Many lines, in an area of so many numbers that no answer has.
-fn show_in(room: usize, text: &[u8])
+fn show_in(rt: &impl Print, room: usize, text: &[u8]) -> io::Result<()>
     requires { room ≤ 64 }
 {
     let mut counts = tally::fresh();
     let mut numbers = [999u32; 64];
     let area = &mut numbers[0..room];
     let done = batch::tally_lines(text, &mut counts, area);
-    number(done.count as u64);
-    number(done.used as u64);
-    show_numbers(area);
-    show_counts(&counts);
+    number(rt, done.count as u64)?;
+    number(rt, done.used as u64)?;
+    show_numbers(rt, area)?;
+    show_counts(rt, &counts)
 }
 
 // The room and the text, parted by a space.
-pub(crate) fn show_tallied(field: &[u8]) {
+pub(crate) fn show_tallied(rt: &impl Print, field: &[u8]) -> io::Result<()> {
     let room_end = word_end(field);
     let start = behind(field);
     let n = field.len();
     let room = at_most(decimal(&field[0..room_end]), 64);
-    show_in(room, &field[start..n]);
+    show_in(rt, room, &field[start..n])
 }
 
 // A tally with one count, of which the cell, the count and the line are given, parted by spaces.

@@ -2,15 +2,15 @@
 ghost use Rattle.std.specs.Prelude.{◌≤◌};
 
 use corrections::Done;
-use libc::STDOUT_FILENO;
 use shown::{at_most, behind, decimal, number, show, word_end};
+use std::io;
 
-fn show_done(done: Done, area: &[u8]) {
+fn show_done(rt: &impl Print, done: Done, area: &[u8]) -> io::Result<()> {
     let reason = done.reason;
-    number(reason.number() as u64);
-    number(done.count as u64);
-    io::write_all(STDOUT_FILENO, b" ");
-    show(area);
+    number(rt, reason.number() as u64)?;
+    number(rt, done.count as u64)?;
+    rt.write_all(b" ")?;
+    show(rt, area)
 }
 
 fn call(command: u8, scheme: &[u8], content: &[u8], area: &mut [u8]) -> Done {
@@ -21,17 +21,23 @@ fn call(command: u8, scheme: &[u8], content: &[u8], area: &mut [u8]) -> Done {
 }
 
 // In an area of so many dots.
-fn show_in(command: u8, room: usize, scheme: &[u8], content: &[u8])
+fn show_in(
+    rt: &impl Print,
+    command: u8,
+    room: usize,
+    scheme: &[u8],
+    content: &[u8],
+) -> io::Result<()>
     requires { room ≤ 1024 }
 {
     let mut dots = [b'.'; 1024];
     let area = &mut dots[0..room];
     let done = call(command, scheme, content, area);
-    show_done(done, area);
+    show_done(rt, done, area)
 }
 
 // The room, the scheme and the content, parted by spaces.
-pub(crate) fn show_work(command: u8, field: &[u8]) {
+pub(crate) fn show_work(rt: &impl Print, command: u8, field: &[u8]) -> io::Result<()> {
     let room_end = word_end(field);
     let start = behind(field);
     let n = field.len();
@@ -40,5 +46,5 @@ pub(crate) fn show_work(command: u8, field: &[u8]) {
     let scheme_end = word_end(rest);
     let content = behind(rest);
     let m = rest.len();
-    show_in(command, room, &rest[0..scheme_end], &rest[content..m]);
+    show_in(rt, command, room, &rest[0..scheme_end], &rest[content..m])
 }

@@ -1,4 +1,8 @@
 // The oracle's answers, run again: README.md beside src/ says how the list was made.
-fn main() {
-    examples::run_input();
+#![tactic(auto)]
+
+use std::io;
+
+fn main(rt: HostRuntime) -> io::Result<()> {
+    examples::run_input(&rt)
 }
