@@ -1,67 +1,115 @@
 // Answers each line of standard input by a line on standard output, and then says how many of them each rule accepted, refused and let through.
+#![tactic(auto)]
+
 ghost use Rattle.std.specs.Prelude.{◌<◌, ◌≤◌, length};
 ghost use Rattle.lines.specs.Line.{line_bytes};
 ghost use Rattle.stream.specs.Turn.{closing_room};
 
-use libc::{STDIN_FILENO, STDOUT_FILENO};
+use std::io::{Read, Write};
+use std::process::ExitCode;
+use std::{io, str};
 
-// Whether to go on, and how much of the window is kept.
+// Whether to go on, whether it failed, and how much of the window is kept.
 #[derive(Clone, Copy)]
 struct Next {
     go: bool,
+    failed: bool,
     kept: usize,
 }
 
+// Says on standard error what can't be done, and why: the system's words for it, without their number. What can't be said is left out.
+fn fail(rt: &impl Eprint, what: &str, why: io::Error) {
+    let mut area = [0u8; 256];
+    let mut rest = &mut area[..];
+    let _ = write!(rest, "{why}");
+    let left = rest.len();
+    let n = area.len().saturating_sub(left);
+    let said = str::from_utf8(&area[..n]).unwrap_or("");
+    let words = match said.split_once(" (os error ") {
+        Some((words, _)) => words,
+        None => said,
+    };
+    let _ = eprintln!(rt; "checklines: can't {what}: {words}");
+}
+
 // Writes, or says on standard error why it can't.
-fn write(text: &[u8]) -> bool {
-    let is_written = io::write_all(STDOUT_FILENO, text);
-    if !is_written {
-        os::fail(b"checklines: can't write");
+fn write(rt: &(impl Print + Eprint), text: &[u8]) -> bool {
+    match rt.write_all(text) {
+        Ok(()) => true,
+        Err(why) => {
+            fail(rt, "write", why);
+            false
+        }
     }
-    is_written
 }
 
 // One turn: reads behind what is kept, answers, counts, and writes. Where reading fails, or an answer can't be written, no counts are written.
-fn turn(buf: &mut [u8], kept: usize, out: &mut [u8], counts: &mut [u32; 53]) -> Next
+fn turn(
+    input: &mut impl Read,
+    rt: &(impl Print + Eprint),
+    buf: &mut [u8],
+    kept: usize,
+    out: &mut [u8],
+    counts: &mut [u32; 53],
+) -> Next
     requires kept_inside { kept < length buf.old }
     requires line_fits { line_bytes < length buf.old }
     requires room { closing_room ≤ length out.old }
     ensures { result.kept < length buf.new }
 {
-    let got = libc::read(STDIN_FILENO, &mut buf[kept..]);
-    if got < 0 {
-        os::fail(b"checklines: can't read");
-        return Next { go: false, kept: 0 };
-    }
-    let fresh = io::count(got, &buf[kept..]);
+    let fresh = match input.read(&mut buf[kept..]) {
+        Ok(fresh) => fresh,
+        Err(why) => {
+            fail(rt, "read", why);
+            return Next {
+                go: false,
+                failed: true,
+                kept: 0,
+            };
+        }
+    };
     let done = stream::turn(buf, kept, fresh, out, counts);
     let put = done.put;
-    let is_written = write(&out[..put]);
+    let is_written = write(rt, &out[..put]);
     Next {
         go: is_written & !done.over,
+        failed: !is_written,
         kept: done.kept,
     }
 }
 
-fn answer_all(buf: &mut [u8], out: &mut [u8], counts: &mut [u32; 53])
+// Whether all was read and written.
+fn answer_all(
+    input: &mut impl Read,
+    rt: &(impl Print + Eprint),
+    buf: &mut [u8],
+    out: &mut [u8],
+    counts: &mut [u32; 53],
+) -> bool
     requires line_fits { line_bytes < length buf.old }
     requires room { closing_room ≤ length out.old }
 {
     let mut kept = 0;
     let mut turns = u64::MAX;
     while turns > 0 {
-        let t = turn(buf, kept, out, counts);
+        let t = turn(input, rt, buf, kept, out, counts);
         if !t.go {
-            return;
+            return !t.failed;
         }
         kept = t.kept;
         turns -= 1;
     }
+    false
 }
 
-fn main() {
-    let mut buf = io::large_buffer();
-    let mut out = io::large_buffer();
+fn main(rt: HostRuntime) -> ExitCode {
+    let mut buf = [0u8; 65536];
+    let mut out = [0u8; 65536];
     let mut counts = tally::fresh();
-    answer_all(&mut buf, &mut out, &mut counts);
+    let mut input = rt.stdin();
+    if answer_all(&mut input, &rt, &mut buf, &mut out, &mut counts) {
+        ExitCode::SUCCESS
+    } else {
+        ExitCode::FAILURE
+    }
 }
