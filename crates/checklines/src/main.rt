@@ -5,20 +5,20 @@ ghost use Rattle.std.specs.Prelude.{◌<◌, ◌≤◌, length};
 ghost use Rattle.lines.specs.Line.{line_bytes};
 ghost use Rattle.stream.specs.Turn.{closing_room};
 
-use std::io::{Read, Write};
+use std::io::{ErrorKind, Read, Write};
 use std::process::ExitCode;
 use std::{io, str};
 
-// Whether to go on, whether it failed, and how much of the window is kept.
+// Whether to go on, how much of the window is kept, and the status to end with.
 #[derive(Clone, Copy)]
 struct Next {
     go: bool,
-    failed: bool,
     kept: usize,
+    status: ExitCode,
 }
 
-// Says on standard error what can't be done, and why: the system's words for it, without their number. What can't be said is left out.
-fn fail(rt: &impl Eprint, what: &str, why: io::Error) {
+// Says on standard error what can't be done, and why: the system's words for it, without their number.
+fn fail(rt: &impl Eprint, what: &str, why: io::Error) -> ExitCode {
     let mut area = [0u8; 256];
     let mut rest = &mut area[..];
     let _ = write!(rest, "{why}");
@@ -30,16 +30,17 @@ fn fail(rt: &impl Eprint, what: &str, why: io::Error) {
         None => said,
     };
     let _ = eprintln!(rt; "checklines: can't {what}: {words}");
+    ExitCode::FAILURE
 }
 
-// Writes, or says on standard error why it can't.
-fn write(rt: &(impl Print + Eprint), text: &[u8]) -> bool {
+// Writes, or says on standard error why it can't. Where the reader has gone, nothing is said: the status is that of a program that the signal for it ends.
+fn write(rt: &(impl Print + Eprint), text: &[u8]) -> Result<(), ExitCode> {
     match rt.write_all(text) {
-        Ok(()) => true,
-        Err(why) => {
-            fail(rt, "write", why);
-            false
-        }
+        Ok(()) => Ok(()),
+        Err(why) => match why.kind() {
+            ErrorKind::BrokenPipe => Err(ExitCode::from(141)),
+            _ => Err(fail(rt, "write", why)),
+        },
     }
 }
 
@@ -60,32 +61,37 @@ fn turn(
     let fresh = match input.read(&mut buf[kept..]) {
         Ok(fresh) => fresh,
         Err(why) => {
-            fail(rt, "read", why);
             return Next {
                 go: false,
-                failed: true,
                 kept: 0,
+                status: fail(rt, "read", why),
             };
         }
     };
     let done = stream::turn(buf, kept, fresh, out, counts);
     let put = done.put;
-    let is_written = write(rt, &out[..put]);
-    Next {
-        go: is_written & !done.over,
-        failed: !is_written,
-        kept: done.kept,
+    match write(rt, &out[..put]) {
+        Ok(()) => Next {
+            go: !done.over,
+            kept: done.kept,
+            status: ExitCode::SUCCESS,
+        },
+        Err(status) => Next {
+            go: false,
+            kept: done.kept,
+            status,
+        },
     }
 }
 
-// Whether all was read and written.
+// The status to end with comes back.
 fn answer_all(
     input: &mut impl Read,
     rt: &(impl Print + Eprint),
     buf: &mut [u8],
     out: &mut [u8],
     counts: &mut [u32; 53],
-) -> bool
+) -> ExitCode
     requires line_fits { line_bytes < length buf.old }
     requires room { closing_room ≤ length out.old }
 {
@@ -94,12 +100,12 @@ fn answer_all(
     while turns > 0 {
         let t = turn(input, rt, buf, kept, out, counts);
         if !t.go {
-            return !t.failed;
+            return t.status;
         }
         kept = t.kept;
         turns -= 1;
     }
-    false
+    ExitCode::FAILURE
 }
 
 fn main(rt: HostRuntime) -> ExitCode {
@@ -107,9 +113,5 @@ fn main(rt: HostRuntime) -> ExitCode {
     let mut out = [0u8; 65536];
     let mut counts = tally::fresh();
     let mut input = rt.stdin();
-    if answer_all(&mut input, &rt, &mut buf, &mut out, &mut counts) {
-        ExitCode::SUCCESS
-    } else {
-        ExitCode::FAILURE
-    }
+    answer_all(&mut input, &rt, &mut buf, &mut out, &mut counts)
 }
