@@ -1,4 +1,4 @@
--- What an answer of `codiceFault` means. Assumes nothing.
+-- What an answer of `codice_fault` means. Assumes nothing.
 use mathlib.Core.Path.{◌≡◌, refl, ◌∙◌, ap}
 use mathlib.Core.Bool.{Bool, true, false, ◌&&◌}
 use mathlib.Core.Bool as bool

@@ -40,7 +40,7 @@ check_figure Mod89 body = abn_pair (total_by figure50 body)
 abbrev pub mod11_reason : List ℕ → Reason
 mod11_reason body = pick (all_zero body) Zero (pick (eqb (check_figure Mod11 body) 10) NoFigure NoReason)
 
--- `numberWith` makes a number of the body and a figure: with x it is accepted, and with no other text of x's length that writes `least` or more
+-- `number_with` makes a number of the body and a figure: with x it is accepted, and with no other text of x's length that writes `least` or more
 pub record Completes (accepts : List ℕ → Bool) (number_with : List ℕ → List ℕ) (least : ℕ) (x : List ℕ) : Type 0 where
   pub accepted : accepts (number_with x) ≡ true
   pub alone : (y : List ℕ) → length y ≡ length x → least ≤ number y → accepts (number_with y) ≡ true → y ≡ x

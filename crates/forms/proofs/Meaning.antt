@@ -1,4 +1,4 @@
--- What an answer of `faultOf` means. Assumes nothing.
+-- What an answer of `fault_of` means. Assumes nothing.
 use mathlib.Core.Path.{◌≡◌, refl, ◌∙◌, sym}
 use mathlib.Core.Bool.{Bool, true, false}
 use mathlib.Core.Logic.{◌⊎◌, inl, inr, ⊎_elim}

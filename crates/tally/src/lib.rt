@@ -3,7 +3,7 @@
 
 mod cells;
 mod counts;
-mod text;
+mod counts_text;
 
 pub use counts::{Fed, count, feed, feed_line, fewer, fresh, left};
-pub use text::put_text;
+pub use counts_text::put_text;

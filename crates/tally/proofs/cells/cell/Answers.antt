@@ -1,4 +1,4 @@
--- `tally::tallySize::cell` gives the cell of an answer.
+-- `tally::cells::cell` gives the cell of an answer.
 use Rattle.std.proofs.Common.{arith}
 use Rattle.tally.proofs.Places.{verdict_few, other_cell_lem, by_rule, rule_cell}
 use Rattle.tally.proofs.cells.cell.Goals as goal

@@ -1,4 +1,4 @@
--- `tally::tallySize::first_cell` meets its contract: each arm's number is a rule's, and past them all it is the last rule's.
+-- `tally::cells::first_cell` meets its contract: each arm's number is a rule's, and past them all it is the last rule's.
 use Rattle.std.proofs.Common.{◌≡◌, ℕ, eqb, ne_eqb}
 use Rattle.ascii.specs.Pick.{pick}
 use Rattle.rules.specs.declared.rule.Rule.TheVariants.{R562}

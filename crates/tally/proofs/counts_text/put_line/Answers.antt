@@ -1,8 +1,8 @@
--- `tally::text::put_line` stores a rule's number and its three counts.
+-- `tally::counts_text::put_line` stores a rule's number and its three counts.
 use Rattle.std.proofs.Common.{arith}
 use Rattle.ascii.proofs.Area.{put_room}
 use Rattle.tally.proofs.Texts.{put_row}
-use Rattle.tally.proofs.text.put_line.Goals as goal
+use Rattle.tally.proofs.counts_text.put_line.Goals as goal
 
 pub put_field-m-requires : goal.put_field-m-requires
 put_field-m-requires c = put_room c.put_field-k.ensures 11 (omega arith)

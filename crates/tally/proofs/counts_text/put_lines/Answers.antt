@@ -1,6 +1,6 @@
 use Rattle.std.proofs.Common.{◌∙◌, arith}
 use Rattle.tally.proofs.Texts.{number_at, laying_none, laying_size, laying_line, laying_others, laying_line_room, laying_room}
-use Rattle.tally.proofs.text.put_lines.Goals as goal
+use Rattle.tally.proofs.counts_text.put_lines.Goals as goal
 
 pub loop-i-init : goal.loop-i-init
 loop-i-init c = laying_none c.args.counts.now c.args.out.now c.args.at

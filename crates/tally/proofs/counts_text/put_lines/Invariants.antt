@@ -1,7 +1,7 @@
--- `tally::text::put_lines` stores a line for each rule, and the others.
+-- `tally::counts_text::put_lines` stores a line for each rule, and the others.
 use Rattle.std.proofs.Common.{◌-◌}
 use Rattle.tally.proofs.Texts.{Laying}
-use Rattle.tally.proofs.text.put_lines.Given as goal
+use Rattle.tally.proofs.counts_text.put_lines.Given as goal
 
 abbrev pub invariant-loop-i : goal.invariant-loop-i
 invariant-loop-i l = Laying l.counts l.initial.out l.at l.out l.end l.i
