@@ -43,7 +43,7 @@ SCRIPTS := checklines
 CRATES := $(patsubst %/src/lib.rt,%,$(wildcard crates/*/src/lib.rt))
 sources_of = $(shell find $(wildcard $(foreach part,src specs proofs,$(1:%=%/$(part)))))
 SOURCES := crates.txt $(call sources_of,$(CRATES))
-MACHINE := machine/is_native machine/object
+MACHINE := machine/has_rt machine/is_native machine/object
 
 .DELETE_ON_ERROR:
 .PHONY: all install uninstall test clean FORCE
@@ -57,7 +57,7 @@ $(PROVED): $(SOURCES) $(MACHINE) machine/staticlib
 	@machine/staticlib partyid >$(OUT)/rt.log 2>&1 || { cat $(OUT)/rt.log >&2; exit 1; }
 
 # Not beside the library: two runs of rt would prove the same crates into the same files.
-$(PROGRAM): $(SOURCES) $(call sources_of,crates/checklines) $(MACHINE) machine/program machine/os.c | $(PROVED)
+$(PROGRAM): $(SOURCES) $(call sources_of,crates/checklines) $(MACHINE) machine/program | $(PROVED)
 	@mkdir -p $(OUT)
 	@echo 'proving the line program ..'
 	@machine/program checklines >$(OUT)/program.log 2>&1 || { cat $(OUT)/program.log >&2; exit 1; }
@@ -78,8 +78,10 @@ $(OUT)/$(SONAME): $(OUT)/libpartyid.a include/partyid.map
 	$(CC) -shared -Wl,-soname,$(SONAME) -Wl,--version-script=include/partyid.map -Wl,-z,defs -Wl,-z,text -Wl,-z,relro -Wl,-z,now \
 	    $(LDFLAGS) -o $@ -Wl,--whole-archive $< -Wl,--no-whole-archive
 
+# A copy and no link: rt takes no links in the folder of a repository.
 $(OUT)/libpartyid.so: $(OUT)/$(SONAME)
-	ln -sf $(SONAME) $@
+	@rm -f $@
+	cp $< $@
 
 # A folder under the prefix follows it, also where pkg-config is given another one.
 by_prefix = $(patsubst $(PREFIX)/%,$${prefix}/%,$(1))

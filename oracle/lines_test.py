@@ -1,5 +1,5 @@
 #!/usr/bin/env python3
-"""Holds the built program target/bin/checklines against paper/, the rules read in Python: lines_test.py [SEED]
+"""Holds the built program target/native/checklines against paper/, the rules read in Python: lines_test.py [SEED]
 
 Random and adversarial inputs go through a pipe, in chunks of random sizes with pauses between them; every byte of the output is compared, the answers
 and the counts after them. It fails too where a count that a line can raise never went up."""
@@ -14,8 +14,7 @@ from paper.text import WHITE
 from worked.program_lines import program_input
 
 ROOT = pathlib.Path(__file__).resolve().parent.parent
-PROGRAM = ROOT / "target" / "bin" / "checklines"
-COMMAND = [ROOT / "machine" / "run", PROGRAM]
+PROGRAM = ROOT / "target" / "native" / "checklines"
 TERMS = SCHEME_TERMS + VAT_TERMS
 
 # ---- contents
@@ -160,7 +159,7 @@ KINDS = (usual, usual, usual, usual, usual, usual, short_lines, long_lines, at_t
 
 def run(data, rng):
     """The program's output on an input that is cut at random places, and in how many pieces it was cut."""
-    process = subprocess.Popen(COMMAND, stdin=subprocess.PIPE, stdout=subprocess.PIPE, bufsize=0)
+    process = subprocess.Popen([PROGRAM], stdin=subprocess.PIPE, stdout=subprocess.PIPE, bufsize=0)
     got = []
     reader = threading.Thread(target=lambda: got.append(process.stdout.read()))
     reader.start()
@@ -221,7 +220,7 @@ def report(index, data, want, got):
 
 def main(words):
     if not PROGRAM.exists():
-        print(f"{PROGRAM} is not built: run `rt check checklines` first")
+        print(f"{PROGRAM} is not built: run `make` first")
         return False
     return compare(int(words[0]) if words else 1)
 

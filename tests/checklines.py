@@ -183,17 +183,19 @@ class Links(InFolder):
         self.assertEqual(said(["checklines"], given=ONE_LINE, path=f"{folder}:{os.environ['PATH']}"), (0, ITS_OUTPUT, ""))
 
 
-# An rt that proves nothing, and goes by its stamp as rt does.
+# An rt that proves nothing, builds where the program is not there, as rt does, and runs it.
 RT = """#!/bin/sh
-[ "$*" = "check checklines" ] || exit 2
-[ ! -f broken ] || { echo "rt: not proved"; exit 1; }
-if [ -f target/stamp/checklines ]; then
-    echo "rt: checklines proved (unchanged since it was last proved)"
-    exit
+[ "$*" = run ] || exit 2
+[ "${PWD##*/crates/}" = checklines ] || exit 2
+[ ! -f ../../broken ] || { echo "rt: not proved" >&2; exit 1; }
+[ ! -f ../../forgets ] || exit 0
+mkdir -p out
+if [ -x out/checklines ]; then
+    echo "rt: nothing has changed since the last proved build" >&2
+else
+    printf '#!/bin/sh\\ncat\\n' >out/checklines && chmod +x out/checklines
 fi
-mkdir -p target/stamp target/bin
-: >target/stamp/checklines
-[ -f forgets ] || { printf '#!/bin/sh\\ncat\\n' >target/bin/checklines && chmod +x target/bin/checklines; }
+exec out/checklines
 """
 
 
@@ -204,6 +206,8 @@ class Building(InFolder):
         super().setUp()
         self.root = self.folder / "a root"
         (self.root / "crates/checklines/src").mkdir(parents=True)
+        for example in ("stdin", "stdout"):
+            (self.root / "crates/checklines" / example).write_text("an example\n")
         (self.root / "crates.txt").touch()
         shutil.copy(SCRIPT, self.root)
         shutil.copytree(ROOT / "machine", self.root / "machine")
@@ -239,10 +243,10 @@ class Building(InFolder):
 
     def test_it_is_built_again_where_it_was_removed(self) -> None:
         """Also where rt says that nothing has changed."""
-        for removed in ("native", "bin"):
+        for removed in ("target/native", "crates/checklines/out"):
             self.builds()
             shutil.rmtree(self.root / "target/native")
-            shutil.rmtree(self.root / "target" / removed, ignore_errors=True)
+            shutil.rmtree(self.root / removed, ignore_errors=True)
             self.builds()
             shutil.rmtree(self.root / "target")
 
@@ -250,7 +254,7 @@ class Building(InFolder):
         (self.root / "forgets").touch()
         status, output, words = self.run_it()
         self.assertEqual((status, output), (2, b""))
-        self.assertIn("left no target/bin/checklines; remove the folder target and try again\n", words)
+        self.assertIn("left no crates/checklines/out/checklines; remove the folder crates/checklines/out and try again\n", words)
         self.assertTrue(words.endswith("checklines: the program could not be proved and built\n"))
 
     def test_what_rt_says_is_shown_where_it_fails(self) -> None:

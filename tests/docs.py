@@ -12,7 +12,7 @@ Sums: each equation between whole numbers in docs/RULES.md, and each number ther
 Links: each link of the documents leads to a file, or to a heading.
 Citations: each "docs/RULES.md, HEADING" in a file of the repository names a heading that is there.
 
-Needs the program and the library as they are built: target/bin/checklines, target/c/libpartyid.so."""
+Needs the program and the library as they are built: target/native/checklines, target/c/libpartyid.so."""
 from __future__ import annotations
 
 import argparse

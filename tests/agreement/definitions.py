@@ -8,18 +8,18 @@ from .interface import Function, Interface, Typed, Unreadable, upper_snake
 
 # the definition that numbers the cases of each enum, and where it stands
 NUMBERED = {
-    "verdict": ("answer/specs/Numbers.antt", "verdictNumber"),
-    "severity": ("answer/specs/Numbers.antt", "severityNumber"),
-    "reason": ("answer/specs/Numbers.antt", "reasonNumber"),
-    "withdrawal": ("partyid/specs/Plain.antt", "plainCode"),
+    "verdict": ("answer/specs/Numbers.antt", "verdict_number"),
+    "severity": ("answer/specs/Numbers.antt", "severity_number"),
+    "reason": ("answer/specs/Numbers.antt", "reason_number"),
+    "withdrawal": ("partyid/specs/Plain.antt", "plain_code"),
 }
 # the enums of an answer, which have words for a reader
 WORDED = ["verdict", "severity", "reason"]
 # a case = a number; a case with its argument = the record's maker with the number
-EQUATION = re.compile(r"\(?(\w+)(?: \w+\))? = (?:fourBytes )?(\d+)(?: .*)?")
+EQUATION = re.compile(r"\(?(\w+)(?: \w+\))? = (?:four_bytes )?(\d+)(?: .*)?")
 
-STRUCT = re.compile(r"(#\[repr\(C\)\]\n)?pub struct (\w+) \{([^}]*)\}")
-FUNCTION = re.compile(r"#\[no_mangle\]\s+pub extern \"C\" fn (\w+)\(([^)]*)\)\s*->\s*(\w+)")
+STRUCT = re.compile(r"(#\[repr\(C\)\]\n(?:#\[.*\]\n)*)?pub struct (\w+) \{([^}]*)\}")
+FUNCTION = re.compile(r"#\[unsafe\(no_mangle\)\]\s+pub extern \"C\" fn (\w+)\(([^)]*)\)\s*->\s*(\w+)")
 
 SCALARS = {"u8": "uint8_t", "u32": "uint32_t", "usize": "size_t", "bool": "bool"}
 SLICES = {"&[u8]": "const void *", "&mut [u8]": "void *", "&mut [u32]": "uint32_t *"}
@@ -54,23 +54,23 @@ def number_in(crates: pathlib.Path, file: str, *patterns: str) -> str:
 
 def area(crates: pathlib.Path) -> str:
     return number_in(
-        crates, "text/specs/Answer.antt", r"^readableOf s = pick \(leb \(length s\) (\d+)\)", r"^padded l = l \+\+ replicate \((\d+) - length l\) 0$"
+        crates, "text/specs/Answer.antt", r"^readable_of s = pick \(leb \(length s\) (\d+)\)", r"^padded l = l \+\+ replicate \((\d+) - length l\) 0$"
     )
 
 
 def answer_numbers(crates: pathlib.Path, structs: dict[str, list[Typed]]) -> str:
     """The numbers that a line has room for are those of an answer, in the order of its struct."""
     answers = (crates / "answer/specs/Answers.antt").read_text()
-    written = re.search(r"^answerNumbers a =([^\[]*)\[\]$", answers, re.M)
-    if not written or re.findall(r"a \.(\w+)", written[1]) != [name for _, name in structs["partyid_answer"]]:
-        raise Unreadable("answer/specs/Answers.antt: answerNumbers has other numbers than PartyidAnswer, or in another order")
-    return number_in(crates, "batch/specs/Batch.antt", r"^numbersEach = (\d+)$")
+    written = re.search(r"^answer_numbers a =([^\[]*)\[\]$", answers, re.M)
+    if not written or re.findall(r"\ba\.(\w+)", written[1]) != [name for _, name in structs["partyid_answer"]]:
+        raise Unreadable("answer/specs/Answers.antt: answer_numbers has other numbers than PartyidAnswer, or in another order")
+    return number_in(crates, "batch/specs/Batch.antt", r"^numbers_each = (\d+)$")
 
 
 def most_digits(crates: pathlib.Path) -> str:
     """The most digits of a number that is listed: of the five rows, each with its form of a number, the one that takes the most."""
     forms = dict(re.findall(r"^(\w+) = (digits \d+ \d+)$", (crates / "forms/specs/Table.antt").read_text(), re.M))
-    rows = re.findall(r"^row \w+ = rowFrom \w+ \w+ (\w+|\(digits \d+ \d+\)) ", (crates / "corrections/specs/Five.antt").read_text(), re.M)
+    rows = re.findall(r"^row \w+ = row_from \w+ \w+ (\w+|\(digits \d+ \d+\)) ", (crates / "corrections/specs/Five.antt").read_text(), re.M)
     if len(rows) != 5:
         raise Unreadable(f"corrections/specs/Five.antt: {len(rows)} rows with a form of a number")
     return str(max(int(forms.get(row, row.strip("()")).split()[2]) for row in rows))
@@ -78,15 +78,15 @@ def most_digits(crates: pathlib.Path) -> str:
 
 def constants(crates: pathlib.Path, structs: dict[str, list[Typed]]) -> dict[str, str]:
     listing = (crates / "corrections/specs/Listing.antt").read_text()
-    room = re.search(r"^roomFor n = (.*)$", listing, re.M)
+    room = re.search(r"^room_for n = (.*)$", listing, re.M)
     if not room:
-        raise Unreadable("corrections/specs/Listing.antt: no equation of roomFor")
+        raise Unreadable("corrections/specs/Listing.antt: no equation of room_for")
     return {
         "PARTYID_AREA": area(crates),
         "PARTYID_LIST_DIGITS": most_digits(crates),
         "PARTYID_LIST_ROOM(n)": room[1],
         "PARTYID_ANSWER_NUMBERS": answer_numbers(crates, structs),
-        "PARTYID_TALLY_COUNTS": number_in(crates, "tally/specs/Cell.antt", r"^tallySize = (\d+)$"),
+        "PARTYID_TALLY_COUNTS": number_in(crates, "tally/specs/Cell.antt", r"^tally_size = (\d+)$"),
         "PARTYID_TALLY_LIMIT": number_in(crates, "tally/specs/Tally.antt", r"^limit = (\d+)$"),
     }
 
@@ -154,8 +154,8 @@ def read_functions(text: str, structs: dict[str, list[Typed]], arrays: dict[str,
     for name, parameters, kind in FUNCTION.findall(text):
         typed = [pair for p in split_fields(parameters) for pair in parameter(*p, arrays)]
         found[name] = Function(result(kind, structs), typed)
-    if len(found) != text.count("#[no_mangle]"):
-        raise Unreadable(f"{text.count('#[no_mangle]')} functions are marked #[no_mangle] and {len(found)} could be read")
+    if len(found) != text.count("no_mangle"):
+        raise Unreadable(f"{text.count('no_mangle')} functions are marked no_mangle and {len(found)} could be read")
     return found
 
 

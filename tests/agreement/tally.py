@@ -16,8 +16,8 @@ Places = dict[tuple[int, int], int]
 CELLS = "tally/specs/Cell.antt"
 BY_RULE = ("Accepted", "Refused", "Unread")
 WITHOUT_RULE = {
-    "NoRule": r"^otherCell v = pick \(eqb \(verdictNumber v\) 0\) (\d+) \d+$",
-    "Refused": r"^otherCell v = pick \(eqb \(verdictNumber v\) 0\) \d+ (\d+)$",
+    "NoRule": r"^other_cell v = pick \(verdict_number v == 0\) (\d+) \d+$",
+    "Refused": r"^other_cell v = pick \(verdict_number v == 0\) \d+ (\d+)$",
 }
 
 
@@ -32,10 +32,10 @@ def rule_numbers(crates: pathlib.Path) -> list[int]:
 def places(crates: pathlib.Path) -> Places:
     """By the definitions, which give each place to one rule and verdict."""
     verdicts = dict(cases(crates)["verdict"])
-    each = int(number_in(crates, CELLS, r"^cellBy \(By r\) v = (\d+) \* facts r \.index \+ \(verdictNumber v - 1\)$"))
+    each = int(number_in(crates, CELLS, r"^cell_by \(By r\) v = (\d+) \* \(facts r\)\.index \+ \(verdict_number v - 1\)$"))
     found = {(rule, verdicts[name]): each * i + verdicts[name] - 1 for i, rule in enumerate(rule_numbers(crates)) for name in BY_RULE}
     found |= {(0, verdicts[name]): int(number_in(crates, CELLS, of)) for name, of in WITHOUT_RULE.items()}
-    if sorted(found.values()) != list(range(int(number_in(crates, CELLS, r"^tallySize = (\d+)$")))):
+    if sorted(found.values()) != list(range(int(number_in(crates, CELLS, r"^tally_size = (\d+)$")))):
         raise Unreadable(f"{CELLS}: the places are {sorted(found.values())}")
     return found
 
