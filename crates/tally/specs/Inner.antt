@@ -10,7 +10,7 @@ use Rattle.tally.specs.declared.counts.Fed.{Fed}
 use Rattle.tally.specs.Cell.{cell_of}
 use Rattle.tally.specs.Tally.{sum_of, limit, full_answer}
 
--- the first of a rule's three tally_size, and of the two others
+-- the first of a rule's three cells, and of the two others
 abbrev pub first_by : Chosen → ℕ
 first_by (By r) = 3 * (facts r).index
 first_by NoRule = 51

@@ -6,8 +6,7 @@ pub returns-then-a-b : goal.returns-then-a-b
 returns-then-a-b c = sym (same_length c.args.a.now c.args.b.now c.if-a-b.true)
 
 pub returns-then-a-i : goal.returns-then-a-i
-returns-then-a-i c =
-    sym (c.loop-i.invariant.2 ∙ same_not c.args.a.now c.args.b.now c.loop-i.i (omega arith) (omega arith) c.if-a-i.true)
+returns-then-a-i c = sym (c.loop-i.invariant.2 ∙ same_not c.args.a.now c.args.b.now c.loop-i.i (omega arith) (omega arith) c.if-a-i.true)
 
 pub loop-i-preserved : goal.loop-i-preserved
 loop-i-preserved c =

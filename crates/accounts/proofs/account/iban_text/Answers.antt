@@ -19,8 +19,7 @@ remainder-requires c =
 pub returns-then-is_fit : goal.returns-then-is_fit
 unfolding iban_finding
 returns-then-is_fit c =
-    let b = c in
-    met _ (fitted _ b.is_fit.ensures b.iban_form-fault.ensures c.if-is_fit.true)
+    met _ (fitted _ c.is_fit.ensures c.iban_form-fault.ensures c.if-is_fit.true)
     (ap (λ t. eqb t 1) c.remainder.ensures) c.decided.ensures
 
 pub returns : goal.returns

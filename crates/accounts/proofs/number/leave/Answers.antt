@@ -14,14 +14,11 @@ step-acc-requires c =
     c.requires c.loop-i-test.true
 
 pub loop-i-preserved : goal.loop-i-preserved
-loop-i-preserved c =
-    let d = c in (
-      omega arith,
-      d.loop-i.invariant.1 ∙ spell_step d.loop-i.acc d.args.text.now d.loop-i.i c.loop-i-test.true
-          ∙ sym (c.step-acc.ensures.on _),
-    )
+loop-i-preserved c = (
+  omega arith,
+  c.loop-i.invariant.1 ∙ spell_step c.loop-i.acc c.args.text.now c.loop-i.i c.loop-i-test.true
+      ∙ sym (c.step-acc.ensures.on _),
+)
 
 pub returns : goal.returns
-returns c =
-    let d = c in
-    sym (d.loop-i.invariant.1 ∙ spell_end d.loop-i.acc d.args.text.now d.loop-i.i c.loop-i-test.false)
+returns c = sym (c.loop-i.invariant.1 ∙ spell_end c.loop-i.acc c.args.text.now c.loop-i.i c.loop-i-test.false)

@@ -8,17 +8,12 @@ use Rattle.accounts.proofs.number.remainder.Goals as goal
 
 pub leave-a-requires : goal.leave-a-requires
 leave-a-requires c =
-    let d = c in
-    let from = d.args.from in
-    let s = d.args.text.now in
-    all_take is_plain (length s - from) (drop from s) (all_drop is_plain from s d.requires.2)
+    let from = c.args.from in
+    let s = c.args.text.now in
+    all_take is_plain (length s - from) (drop from s) (all_drop is_plain from s c.requires.2)
 
 pub leave-requires : goal.leave-requires
-leave-requires c =
-    let d = c in
-    all_take is_plain 4 d.args.text.now d.requires.2
+leave-requires c = all_take is_plain 4 c.args.text.now c.requires.2
 
 pub returns : goal.returns
-returns c =
-    let d = c in
-    leaves d.args.from d.args.text.now _ _ c.leave-a.ensures c.leave.ensures
+returns c = leaves c.args.from c.args.text.now _ _ c.leave-a.ensures c.leave.ensures

@@ -13,11 +13,11 @@ use Rattle.checks.proofs.answers.eas_value.Goals as goal
 
 pub returns-then-number-eq0 : goal.returns-then-number-eq0
 unfolding eas_answer
-returns-then-number-eq0 c = let d = c in let e = d in taken _ _ e.same_bytes.ensures e.if-same_bytes.true (c.answer_to.ensures ∙ ap (answered _ _) (c.gln_problem.ensures ∙ found_read AsItStands strict_gln _ (sym (ap none e.readable-why.ensures) ∙ is_none _ d.number.ensures d.if-number-eq0.true)))
+returns-then-number-eq0 c = taken _ _ c.same_bytes.ensures c.if-same_bytes.true (c.answer_to.ensures ∙ ap (answered _ _) (c.gln_problem.ensures ∙ found_read AsItStands strict_gln _ (sym (ap none c.readable-why.ensures) ∙ is_none _ c.number.ensures c.if-number-eq0.true)))
 
 pub returns-then-same_bytes : goal.returns-then-same_bytes
 unfolding eas_answer
-returns-then-same_bytes c = let d = c in let e = d in taken _ _ e.same_bytes.ensures e.if-same_bytes.true (c.refused.ensures ∙ ap (answered _ _) (ap Unreadable e.readable-why.ensures ∙ found_unread AsItStands strict_gln _ (sym (ap none e.readable-why.ensures) ∙ is_given _ d.number.ensures d.if-number-eq0.false)))
+returns-then-same_bytes c = taken _ _ c.same_bytes.ensures c.if-same_bytes.true (c.refused.ensures ∙ ap (answered _ _) (ap Unreadable c.readable-why.ensures ∙ found_unread AsItStands strict_gln _ (sym (ap none c.readable-why.ensures) ∙ is_given _ c.number.ensures c.if-number-eq0.false)))
 
 pub returns : goal.returns
 unfolding eas_answer

@@ -10,6 +10,5 @@ use Rattle.checks.proofs.judge.answer_rule.Goals as goal
 
 pub returns : goal.returns
 returns c =
-    let a = c in
-    let s = a.args.text.now in
-    c.answer_to.ensures ∙ ap (answered _ _) (c.finding.ensures ∙ ap (finding a.args.rule) (take_all (length s - 0) s (omega arith)))
+    let s = c.args.text.now in
+    c.answer_to.ensures ∙ ap (answered _ _) (c.finding.ensures ∙ ap (finding c.args.rule) (take_all (length s - 0) s (omega arith)))

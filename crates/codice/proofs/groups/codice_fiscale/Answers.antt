@@ -48,11 +48,11 @@ slice_bounds-castable_integer-end c = let l = (taken (goal.at.slice_bounds-casta
 
 pub returns-then-castable_integer : goal.returns-then-castable_integer
 unfolding pick
-returns-then-castable_integer c = let d = c in rw c.if-castable_integer.true at (eleven _ _ _ _ (taken (goal.at.returns-then-castable_integer d).In-Points) d.if-n-eq11.true c.castable_integer.ensures)
+returns-then-castable_integer c = rw c.if-castable_integer.true at (eleven _ _ _ _ (taken (goal.at.returns-then-castable_integer c).In-Points) c.if-n-eq11.true c.castable_integer.ensures)
 
 pub returns-then-n-eq11 : goal.returns-then-n-eq11
 unfolding pick
-returns-then-n-eq11 c = let d = c in rw c.if-castable_integer.false at (eleven _ _ _ _ (taken (goal.at.returns-then-n-eq11 d).In-Points) d.if-n-eq11.true c.castable_integer.ensures)
+returns-then-n-eq11 c = rw c.if-castable_integer.false at (eleven _ _ _ _ (taken (goal.at.returns-then-n-eq11 c).In-Points) c.if-n-eq11.true c.castable_integer.ensures)
 
 pub returns : goal.returns
 returns c = sym (another _ _ _ _ (taken (goal.at.returns c).In-Points) c.if-n-eq16.false c.if-n-eq11.false)

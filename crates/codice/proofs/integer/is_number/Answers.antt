@@ -13,12 +13,11 @@ returns-then-p-at c = sym (number_none _ _ c.if-p-at.true)
 
 pub returns-then-is_digit : goal.returns-then-is_digit
 returns-then-is_digit c =
-    let d = c in
     sym
-    (number_first _ _ d.if-p-at.false (sym d.is_digit.ensures ∙ d.if-is_digit.true)
+    (number_first _ _ c.if-p-at.false (sym c.is_digit.ensures ∙ c.if-is_digit.true)
     ∙ ap (λ (l : List ℕ). is_empty (past is_white l)) (sym c.past_digits-e.ensures)
     ∙ ap is_empty (sym c.past_white-f.ensures)
-    ∙ empty_drop d.args.p.now c.past_white-f.result)
+    ∙ empty_drop c.args.p.now c.past_white-f.result)
 
 pub returns : goal.returns
 returns c = sym (number_not _ _ c.if-p-at.false (sym c.is_digit.ensures ∙ c.if-is_digit.false))

@@ -20,18 +20,15 @@ room c = rw (room_split (len c) (one c)) at c.requires.room
 
 pub put_replacements-mid-requires : goal.put_replacements-mid-requires
 put_replacements-mid-requires c =
-    let a = c in
-    record { placed = a.requires.placed; summed = a.requires.summed; room = omega (arith, room (goal.at.put_replacements-mid-requires a).Start) }
+    record { placed = c.requires.placed; summed = c.requires.summed; room = omega (arith, room (goal.at.put_replacements-mid-requires c).Start) }
 
 pub put_exchanges-requires : goal.put_exchanges-requires
 put_exchanges-requires c =
-    let a = c in
     let p = c.put_replacements-mid in
-    record { placed = a.requires.placed; summed = a.requires.summed; room = omega (arith, room (goal.at.put_exchanges-requires a).Start, p.ensures.ends, p.ensures.few, p.auto.out) }
+    record { placed = c.requires.placed; summed = c.requires.summed; room = omega (arith, room (goal.at.put_exchanges-requires c).Start, p.ensures.ends, p.ensures.few, p.auto.out) }
 
 pub returns : goal.returns
 unfolding corrections
 returns c =
-    let a = c in
     let p = c.put_replacements-mid in
-    rw (joined_append, room_split (len (goal.at.returns a).Start) (one (goal.at.returns a).Start)) (put_more p.ensures c.put_exchanges.ensures (omega (arith, room (goal.at.returns a).Start, p.ensures.few)))
+    rw (joined_append, room_split (len (goal.at.returns c).Start) (one (goal.at.returns c).Start)) (put_more p.ensures c.put_exchanges.ensures (omega (arith, room (goal.at.returns c).Start, p.ensures.few)))

@@ -10,17 +10,15 @@ loop-i-init c = (omega arith, fill_none _ _ _ _)
 
 pub put_swap-at-requires : goal.put_swap-at-requires
 put_swap-at-requires c =
-    let a = c in
     let l = c.loop-i in
-    let n = length a.args.s.now in
-    record { placed = a.requires.placed; summed = a.requires.summed; inside = omega arith; room = next_fits _ _ _ _ _ (n - 1) _ _ l.invariant.1 (omega arith) a.requires.room }
+    let n = length c.args.s.now in
+    record { placed = c.requires.placed; summed = c.requires.summed; inside = omega arith; room = next_fits _ _ _ _ _ (n - 1) _ _ l.invariant.1 (omega arith) c.requires.room }
 
 pub loop-i-preserved : goal.loop-i-preserved
 loop-i-preserved c =
-    let a = c in
     let l = c.loop-i in
-    let n = length a.args.s.now in
-    (omega arith, fill_more _ _ _ _ _ (n - 1) _ _ l.invariant.1 (omega arith) a.requires.room _ _ c.put_swap-at.ensures)
+    let n = length c.args.s.now in
+    (omega arith, fill_more _ _ _ _ _ (n - 1) _ _ l.invariant.1 (omega arith) c.requires.room _ _ c.put_swap-at.ensures)
 
 pub returns : goal.returns
 unfolding exchanges

@@ -11,9 +11,8 @@ use Rattle.corrections.proofs.entries.put_fix.Goals as goal
 pub returns-then-d-lt10 : goal.returns-then-d-lt10
 unfolding only
 returns-then-d-lt10 c =
-    let a = c in
-    let n = length a.args.s.now in
-    put_row n a.args.out.now a.args.at (a.args.at + n - a.args.at) (a.args.at + n) c.put_replaced.new.row _ _ c.put_replaced.ensures (c.digit_at-d.ensures ∙ rw (lt-ltb _ 10 c.if-d-lt10.true)) (simp length-set) refl (omega arith)
+    let n = length c.args.s.now in
+    put_row n c.args.out.now c.args.at (c.args.at + n - c.args.at) (c.args.at + n) c.put_replaced.new.row _ _ c.put_replaced.ensures (c.digit_at-d.ensures ∙ rw (lt-ltb _ 10 c.if-d-lt10.true)) (simp length-set) refl (omega arith)
 
 pub returns : goal.returns
 unfolding only

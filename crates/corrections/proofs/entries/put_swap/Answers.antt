@@ -1,5 +1,5 @@
 -- `corrections::entries::put_swap` meets its contract.
-use mathlib.Core.Path.{◌≡◌, ◌∙◌, sym, refl}
+use mathlib.Core.Path.{◌≡◌, refl}
 use mathlib.Core.Bool.{true, false}
 use Prim.Native.Nat.{◌+◌, ◌-◌}
 use native.Mathlib.Omega.{arith}
@@ -13,10 +13,9 @@ use Rattle.corrections.proofs.entries.put_swap.Goals as goal
 
 pub returns-then-accepts_exchanged : goal.returns-then-accepts_exchanged
 returns-then-accepts_exchanged c =
-    let a = c in
-    let n = length a.args.s.now in
-    let e : accepts (rule_of a.args.kind) (exchanged a.args.s.now a.args.i) ≡ true = cc in
-    put_row n a.args.out.now a.args.at (a.args.at + n - a.args.at) (a.args.at + n) c.put_exchanged.new.row _ _ c.put_exchanged.ensures (accepted_yes _ _ e) (simp length-set) refl (omega arith)
+    let n = length c.args.s.now in
+    let e : accepts (rule_of c.args.kind) (exchanged c.args.s.now c.args.i) ≡ true = cc in
+    put_row n c.args.out.now c.args.at (c.args.at + n - c.args.at) (c.args.at + n) c.put_exchanged.new.row _ _ c.put_exchanged.ensures (accepted_yes _ _ e) (simp length-set) refl (omega arith)
 
 pub returns : goal.returns
 returns c =

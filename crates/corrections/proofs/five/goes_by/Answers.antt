@@ -12,5 +12,4 @@ returns-then-scheme-ne4 c = by_other _ _ c.args.scheme.now (c.scheme.ensures ∙
 
 pub returns : goal.returns
 returns c =
-    let t = c in
-    by_four _ _ t.args.scheme.now (t.scheme.ensures ∙ ap (λ r. (facts r).scheme) t.rule-rule.ensures) _ _ _ _ t.in-Four.is t.if-scheme-ne4.false
+    by_four _ _ c.args.scheme.now (c.scheme.ensures ∙ ap (λ r. (facts r).scheme) c.rule-rule.ensures) _ _ _ _ c.in-Four.is c.if-scheme-ne4.false

@@ -47,25 +47,19 @@ found : (t : After-passes)
     → total_passes t.figure-figure.result
     (t.args.sum - t.share.result + counted (figure_by t.figure-figure.result).fold (get_or t.args.weights.now (length t.args.s.now - 1 - t.args.i) 0 * t.loop-d.d))
     ≡ t.passes.result
-found t =
-    let u = t in
-    ap (λ r. total_passes u.figure-figure.result (u.args.sum - u.share.result + r)) (sym t.share-in-loop-d.ensures) ∙ sym t.passes.ensures
+found t = ap (λ r. total_passes t.figure-figure.result (t.args.sum - t.share.result + r)) (sym t.share-in-loop-d.ensures) ∙ sym t.passes.ensures
 
 pub offset_bounds-weights-k : goal.offset_bounds-weights-k
-offset_bounds-weights-k c =
-    let a = c in
-    omega (arith, short a.args.kind a.args.s.now a.args.sum a.requires.summed)
+offset_bounds-weights-k c = omega (arith, short c.args.kind c.args.s.now c.args.sum c.requires.summed)
 
 pub bounds-weights-k : goal.bounds-weights-k
 bounds-weights-k c =
-    let a = c in
-    omega (arith, short a.args.kind a.args.s.now a.args.sum a.requires.summed, places_20 a.args.kind a.requires.placed, a.requires.inside)
+    omega (arith, short c.args.kind c.args.s.now c.args.sum c.requires.summed, places_20 c.args.kind c.requires.placed, c.requires.inside)
 
 pub overflow_sub-s : goal.overflow_sub-s
 overflow_sub-s c =
-    let a = c in
-    let s = a.args.s.now in
-    omega (arith, digit_bounds (get_or s a.args.i 0) (all_at is_digit s a.args.i (number_digits a.args.kind s a.args.sum a.requires.summed).digit a.requires.inside))
+    let s = c.args.s.now in
+    omega (arith, digit_bounds (get_or s c.args.i 0) (all_at is_digit s c.args.i (number_digits c.args.kind s c.args.sum c.requires.summed).digit c.requires.inside))
 
 pub overflow_sub-base : goal.overflow_sub-base
 overflow_sub-base c = share_within c.args.kind c.args.s.now c.args.sum c.requires.summed c.args.i c.share.result c.requires.inside (was_is (goal.at.overflow_sub-base c).After-share)
@@ -75,21 +69,18 @@ loop-d-init c = (omega arith, λ x h. absurd (omega arith))
 
 pub overflow_add-base : goal.overflow_add-base
 overflow_add-base c =
-    let u = c in
-    let b : c.share-in-loop-d.result ≤ 38654705664 = rw c.share-in-loop-d.ensures (share_small (figure_by u.figure-figure.result).fold (get_or u.args.weights.now (place (goal.at.overflow_add-base u).After-share) 0) c.loop-d.d (omega (arith, u.shared_slice_known-3-1.given (place (goal.at.overflow_add-base u).After-share))) (omega arith)) in
-    omega (arith, sum_small u.args.kind u.args.s.now u.args.sum u.requires.summed)
+    let b : c.share-in-loop-d.result ≤ 38654705664 = rw c.share-in-loop-d.ensures (share_small (figure_by c.figure-figure.result).fold (get_or c.args.weights.now (place (goal.at.overflow_add-base c).After-share) 0) c.loop-d.d (omega (arith, c.type_inv.weights (place (goal.at.overflow_add-base c).After-share))) (omega arith)) in
+    omega (arith, sum_small c.args.kind c.args.s.now c.args.sum c.requires.summed)
 
 pub returns-then-passes : goal.returns-then-passes
 returns-then-passes c =
-    let u = c in
     let d = c.loop-d.d in
     let l = c.loop-d-test.true in
-    fixes_hit u.args.kind u.args.s.now u.args.i d u.requires.inside l (sym (test (goal.at.returns-then-passes c).After-share d l) ∙ found (goal.at.returns-then-passes c).After-passes ∙ c.if-passes.true)
+    fixes_hit c.args.kind c.args.s.now c.args.i d c.requires.inside l (sym (test (goal.at.returns-then-passes c).After-share d l) ∙ found (goal.at.returns-then-passes c).After-passes ∙ c.if-passes.true)
 
 pub loop-d-preserved : goal.loop-d-preserved
 loop-d-preserved c = (omega arith, below_more _ _ c.loop-d.invariant.1 (found (goal.at.loop-d-preserved c).After-passes ∙ c.if-passes.false))
 
 pub returns : goal.returns
 returns c =
-    let u = c in
-    fixes_none u.args.kind u.args.s.now u.args.i _ c.loop-d-test.false (λ x h. sym (test (goal.at.returns c).After-share x h) ∙ c.loop-d.invariant.1 x (omega arith))
+    fixes_none c.args.kind c.args.s.now c.args.i _ c.loop-d-test.false (λ x h. sym (test (goal.at.returns c).After-share x h) ∙ c.loop-d.invariant.1 x (omega arith))

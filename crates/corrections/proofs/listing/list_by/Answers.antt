@@ -16,19 +16,15 @@ why : (t : After-number) → t.normalize_into-kept.result.reason ≡ readable_of
 why t = ap (λ (x : Text). x.reason) t.normalize_into-kept.ensures ∙ reason_normal t.args.content.now
 
 pub slice_bounds-first_bytes-end : goal.slice_bounds-first_bytes-end
-slice_bounds-first_bytes-end c =
-    let t = c in
-    rw (ap (λ (x : Text). x.bytes) t.normalize_into-kept.ensures) (sym (text_area t.args.content.now))
+slice_bounds-first_bytes-end c = rw (ap (λ (x : Text). x.bytes) c.normalize_into-kept.ensures) (sym (text_area c.args.content.now))
 
 pub returns-then-number-eq0 : goal.returns-then-number-eq0
 unfolding listed_for found_in pick
 returns-then-number-eq0 c =
-    let t = c in
-    let e = c.first_bytes.ensures ∙ ap (λ (x : Text). text_of x) t.normalize_into-kept.ensures in
-    rw (rw (why (goal.at.returns-then-number-eq0 t).After-number) at (is_none t.normalize_into-kept.result.reason t.number.ensures c.if-number-eq0.true), ← e) c.list_text.ensures
+    let e = c.first_bytes.ensures ∙ ap (λ (x : Text). text_of x) c.normalize_into-kept.ensures in
+    rw (rw (why (goal.at.returns-then-number-eq0 c).After-number) at (is_none c.normalize_into-kept.result.reason c.number.ensures c.if-number-eq0.true), ← e) c.list_text.ensures
 
 pub returns : goal.returns
 unfolding listed_for found_in pick
 returns c =
-    let t = c in
-    works_refused (readable_of t.args.content.now) _ (rw (rw (why (goal.at.returns t).After-number) at (is_given t.normalize_into-kept.result.reason t.number.ensures c.if-number-eq0.false))) (c.refused.ensures ∙ ap (λ r. (refused_with r).says) (why (goal.at.returns t).After-number))
+    works_refused (readable_of c.args.content.now) _ (rw (rw (why (goal.at.returns c).After-number) at (is_given c.normalize_into-kept.result.reason c.number.ensures c.if-number-eq0.false))) (c.refused.ensures ∙ ap (λ r. (refused_with r).says) (why (goal.at.returns c).After-number))

@@ -52,14 +52,11 @@ accepted k s q sum t row_is t_is h = t_is ∙ ap (λ (r : Row). total_passes r.f
 
 pub returns-in_default : goal.returns-in_default
 returns-in_default c =
-    let t = c in
-    works_refused _ _ (listed_unfit t.args.kind t.args.s.now _ (unfit_means (fault_of (number_form t.args.kind) t.args.s.now) (total_by (adds_by t.args.kind) t.args.s.now) (sym (sum_of_number c.args.kind c.args.s.now _ _ c.row-row.ensures c.weights_of-weights.ensures _ c.sum_of.ensures) ∙ c.in_default.is))) c.refused.ensures
+    works_refused _ _ (listed_unfit c.args.kind c.args.s.now _ (unfit_means (fault_of (number_form c.args.kind) c.args.s.now) (total_by (adds_by c.args.kind) c.args.s.now) (sym (sum_of_number c.args.kind c.args.s.now _ _ c.row-row.ensures c.weights_of-weights.ensures _ c.sum_of.ensures) ∙ c.in_default.is))) c.refused.ensures
 
 pub returns-then-passes : goal.returns-then-passes
 returns-then-passes c =
-    let t = c in
-    let a = t in
-    works_refused _ _ (listed_good a.args.kind a.args.s.now _ (formed (goal.at.returns-then-passes c).In-Of).formed (sym (accepted c.args.kind c.args.s.now _ _ _ c.row-row.ensures c.passes.ensures (formed (goal.at.returns-then-passes c).In-Of)) ∙ c.if-passes.true)) c.refused-then-passes.ensures
+    works_refused _ _ (listed_good c.args.kind c.args.s.now _ (formed (goal.at.returns-then-passes c).In-Of).formed (sym (accepted c.args.kind c.args.s.now _ _ _ c.row-row.ensures c.passes.ensures (formed (goal.at.returns-then-passes c).In-Of)) ∙ c.if-passes.true)) c.refused-then-passes.ensures
 
 pub overflow_mul-n : goal.overflow_mul-n
 overflow_mul-n c = omega (arith, (short c.args.kind c.args.s.now c.in-Of.sum (formed (goal.at.overflow_mul-n c).In-Of)).1)
@@ -73,21 +70,16 @@ overflow_mul-n-2 c = omega (arith, small_joined _ (short c.args.kind c.args.s.no
 pub returns-then-out-n : goal.returns-then-out-n
 unfolding entries_of
 returns-then-out-n c =
-    let t = c in
-    let a = t in
-    works_refused _ _ (listed_wrong a.args.kind a.args.s.now _ (formed (goal.at.returns-then-out-n c).In-Of).formed (sym (accepted c.args.kind c.args.s.now _ _ _ c.row-row.ensures c.passes.ensures (formed (goal.at.returns-then-out-n c).In-Of)) ∙ c.if-passes.false) ∙ room_short _ _ _ c.if-out-n.true) c.refused-then-out-n.ensures
+    works_refused _ _ (listed_wrong c.args.kind c.args.s.now _ (formed (goal.at.returns-then-out-n c).In-Of).formed (sym (accepted c.args.kind c.args.s.now _ _ _ c.row-row.ensures c.passes.ensures (formed (goal.at.returns-then-out-n c).In-Of)) ∙ c.if-passes.false) ∙ room_short _ _ _ c.if-out-n.true) c.refused-then-out-n.ensures
 
 pub put_corrections-end-requires : goal.put_corrections-end-requires
 put_corrections-end-requires c =
-    let t = c in
     record { placed = weights_are c.args.kind c.args.s.now _ _ c.row-row.ensures c.weights_of-weights.ensures; summed = formed (goal.at.put_corrections-end-requires c).In-Of; room = c.if-out-n.false }
 
 pub returns : goal.returns
 returns c =
-    let t = c in
-    let a = t in
-    rw (listed_wrong a.args.kind a.args.s.now (entries_of a.args.kind a.args.s.now (length a.args.out.now)) (formed (goal.at.returns c).In-Of).formed (sym (accepted c.args.kind c.args.s.now _ _ _ c.row-row.ensures c.passes.ensures (formed (goal.at.returns c).In-Of)) ∙ c.if-passes.false))
-    (entries_done a.args.kind a.args.s.now _ _ _ _ c.if-out-n.false (short c.args.kind c.args.s.now c.in-Of.sum (formed (goal.at.returns c).In-Of)).0 c.put_corrections-end.ensures)
+    rw (listed_wrong c.args.kind c.args.s.now (entries_of c.args.kind c.args.s.now (length c.args.out.now)) (formed (goal.at.returns c).In-Of).formed (sym (accepted c.args.kind c.args.s.now _ _ _ c.row-row.ensures c.passes.ensures (formed (goal.at.returns c).In-Of)) ∙ c.if-passes.false))
+    (entries_done c.args.kind c.args.s.now _ _ _ _ c.if-out-n.false (short c.args.kind c.args.s.now c.in-Of.sum (formed (goal.at.returns c).In-Of)).0 c.put_corrections-end.ensures)
 
 pub nonzero_div-count : goal.nonzero_div-count
 nonzero_div-count c = let h = short c.args.kind c.args.s.now c.in-Of.sum (formed (goal.at.nonzero_div-count c).In-Of) in omega (arith, h.0)

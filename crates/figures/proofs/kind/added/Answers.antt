@@ -35,8 +35,7 @@ digit t = let d = digit_bounds _ (is t) in (omega arith, omega arith)
 
 small : (c : After-share-sum) → c.share-sum.result ≤ 38654705664
 small c =
-    let t = c in
-    rw c.share-sum.ensures (share_small (figure_by t.args.kind).fold _ _ (omega (arith, c.shared_slice_known-then-is_digit-1.given (length t.args.s.now - 1 - t.loop-i.i + t.args.after))) (let d = digit_bounds _ (sym (c.is_digit.ensures ∙ ap is_digit c.wide.ensures) ∙ c.if-is_digit.true) in omega arith))
+    rw c.share-sum.ensures (share_small (figure_by c.args.kind).fold _ _ (omega (arith, c.type_inv.weights (length c.args.s.now - 1 - c.loop-i.i + c.args.after))) (let d = digit_bounds _ (sym (c.is_digit.ensures ∙ ap is_digit c.wide.ensures) ∙ c.if-is_digit.true) in omega arith))
 
 pub offset_bounds-weights-k : goal.offset_bounds-weights-k
 offset_bounds-weights-k c = omega (arith, c.requires)
@@ -52,13 +51,12 @@ overflow_add-sum c = omega (arith, small (goal.at.overflow_add-sum c).After-shar
 
 pub loop-i-preserved : goal.loop-i-preserved
 loop-i-preserved c =
-    let t = c in
-    let i = t.loop-i.i in
-    let l = t.loop-i.invariant in (
+    let i = c.loop-i.i in
+    let l = c.loop-i.invariant in (
       omega arith,
       omega (arith, small (goal.at.loop-i-preserved c).After-share-sum),
-      omega (arith, c.share-sum.ensures, step (adding (goal.at.loop-i-preserved t).Start) t.args.s.now i (omega arith)),
-      l.3 ∙ wrong_more class t.args.s.now i (omega arith) (class_digit 0x23 _ refl ∙ is (goal.at.loop-i-preserved t).Then-is_digit),
+      omega (arith, c.share-sum.ensures, step (adding (goal.at.loop-i-preserved c).Start) c.args.s.now i (omega arith)),
+      l.3 ∙ wrong_more class c.args.s.now i (omega arith) (class_digit 0x23 _ refl ∙ is (goal.at.loop-i-preserved c).Then-is_digit),
     )
 
 pub returns-else-is_digit : goal.returns-else-is_digit
@@ -74,6 +72,5 @@ returns-else-is_digit c =
 pub returns : goal.returns
 returns c =
     let l = c.loop-i in
-    let a = c in
-    let s = a.args.s.now in
-    sum_fit (l.invariant.3 ∙ wrong_end class s l.i (omega arith)) (omega (arith, end (adding (goal.at.returns a).Start) s l.i (omega arith)))
+    let s = c.args.s.now in
+    sum_fit (l.invariant.3 ∙ wrong_end class s l.i (omega arith)) (omega (arith, end (adding (goal.at.returns c).Start) s l.i (omega arith)))

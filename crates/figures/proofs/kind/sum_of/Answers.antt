@@ -19,10 +19,10 @@ abbrev form : Start → Form
 form a = digits a.args.least a.args.most
 
 pub returns-then-n-least : goal.returns-then-n-least
-returns-then-n-least c = let a = c in sum_out _ _ _ _ _ (fault_short (form (goal.at.returns-then-n-least a).Start) a.args.s.now c.if-n-least.true)
+returns-then-n-least c = sum_out _ _ _ _ _ (fault_short (form (goal.at.returns-then-n-least c).Start) c.args.s.now c.if-n-least.true)
 
 pub returns-then-most-n : goal.returns-then-most-n
-returns-then-most-n c = let a = c in sum_out _ _ _ _ _ (fault_long (form (goal.at.returns-then-most-n a).Start) a.args.s.now c.if-most-n.true)
+returns-then-most-n c = sum_out _ _ _ _ _ (fault_long (form (goal.at.returns-then-most-n c).Start) c.args.s.now c.if-most-n.true)
 
 pub overflow_add-n : goal.overflow_add-n
 overflow_add-n c = omega (arith, one c.args.pending)
@@ -32,6 +32,5 @@ returns-then-weights-n c = sum_over _ _ _ _ _ c.if-weights-n.true
 
 pub returns : goal.returns
 returns c =
-    let a = c in
-    sum_by _ c.added.ensures (sym (fault_inside (form (goal.at.returns a).Start) a.args.s.now c.if-n-least.false c.if-most-n.false))
+    sum_by _ c.added.ensures (sym (fault_inside (form (goal.at.returns c).Start) c.args.s.now c.if-n-least.false c.if-most-n.false))
     ∙ sym (sum_room _ _ _ _ _ c.if-weights-n.false)

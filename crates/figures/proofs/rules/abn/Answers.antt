@@ -23,11 +23,10 @@ abn_total-requires c =
 pub returns-then-is_fit : goal.returns-then-is_fit
 unfolding abn
 returns-then-is_fit c =
-    let b = c in
     let z = c.abn_total.result in
     let f : SFits w64 z = record { sfits = c.abn_total.type_inv } in
     met {t = eqb (of_z w64 (rem_z (to_z w64 (of_z w64 z)) (pos 89))) 0} _
-    (fitted _ b.is_fit.ensures b.n_digits-fault.ensures c.if-is_fit.true)
+    (fitted _ c.is_fit.ensures c.n_digits-fault.ensures c.if-is_fit.true)
     (rw (to_z-of_z f) (rem_zero z ∙ ap (λ y. eqb (nat_abs y % 89) 0) c.abn_total.ensures))
     c.decided.ensures
 

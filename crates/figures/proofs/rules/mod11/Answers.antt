@@ -15,26 +15,23 @@ use Rattle.figures.proofs.rules.mod11.Goals as goal
 pub weighted-sum-requires : goal.weighted-sum-requires
 unfolding all
 weighted-sum-requires c =
-    let b = c in
-    let s = b.args.s.now in
-    let d = digits_fit 9 9 s (fitted _ b.is_fit.ensures b.n_digits-fault.ensures c.if-is_fit.true) in
+    let s = c.args.s.now in
+    let d = digits_fit 9 9 s (fitted _ c.is_fit.ensures c.n_digits-fault.ensures c.if-is_fit.true) in
     let n : length s ≡ 9 = omega arith in
     record { digits = d.digit; few = omega arith; enough = omega arith; small = rw n refl }
 
 pub returns-then-sum-eq0 : goal.returns-then-sum-eq0
 unfolding mod11
 returns-then-sum-eq0 c =
-    let b = c in
-    let s = b.args.s.now in
-    let f = fitted _ b.is_fit.ensures b.n_digits-fault.ensures c.if-is_fit.true in
+    let s = c.args.s.now in
+    let f = fitted _ c.is_fit.ensures c.n_digits-fault.ensures c.if-is_fit.true in
     met_zero _ f (sym (zeros41 s (digits_fit 9 9 s f).digit) ∙ eq-eqb _ _ (sym c.weighted-sum.ensures.exact ∙ c.if-sum-eq0.true))
 
 pub returns-then-is_fit : goal.returns-then-is_fit
 unfolding mod11
 returns-then-is_fit c =
-    let b = c in
-    let s = b.args.s.now in
-    let f = fitted _ b.is_fit.ensures b.n_digits-fault.ensures c.if-is_fit.true in
+    let s = c.args.s.now in
+    let f = fitted _ c.is_fit.ensures c.n_digits-fault.ensures c.if-is_fit.true in
     met_not_zero _ f
     (sym (zeros41 s (digits_fit 9 9 s f).digit) ∙ ne_eqb _ _ (λ e. c.if-sum-eq0.false (c.weighted-sum.ensures.exact ∙ e)))
     (ap (λ t. eqb (t % 11) 0) c.weighted-sum.ensures.exact) c.decided.ensures

@@ -22,32 +22,28 @@ slice_bounds-weighted-end c =
 pub weighted-body-requires : goal.weighted-body-requires
 unfolding all
 weighted-body-requires c =
-    let b = c in
-    let s = b.args.s.now in
-    let d = digits_fit 10 10 s (fitted _ b.is_fit.ensures b.n_digits-fault.ensures c.if-is_fit.true) in
+    let s = c.args.s.now in
+    let d = digits_fit 10 10 s (fitted _ c.is_fit.ensures c.n_digits-fault.ensures c.if-is_fit.true) in
     record { digits = all_take is_digit 8 s d.digit; few = omega (arith, length-take 8 s); enough = omega (arith, length-take 8 s); small = rw (length-take-le 8 s (omega arith)) refl }
 
 pub slice_bounds-weighted-end-then-is_fit-2 : goal.slice_bounds-weighted-end-then-is_fit-2
 slice_bounds-weighted-end-then-is_fit-2 c =
-    let b = c in
-    let s = b.args.s.now in
-    omega (arith, digits_fit 10 10 s (fitted _ b.is_fit.ensures b.n_digits-fault.ensures c.if-is_fit.true))
+    let s = c.args.s.now in
+    omega (arith, digits_fit 10 10 s (fitted _ c.is_fit.ensures c.n_digits-fault.ensures c.if-is_fit.true))
 
 pub weighted-check-requires : goal.weighted-check-requires
 unfolding all
 weighted-check-requires c =
-    let b = c in
-    let s = b.args.s.now in
-    let d = digits_fit 10 10 s (fitted _ b.is_fit.ensures b.n_digits-fault.ensures c.if-is_fit.true) in
+    let s = c.args.s.now in
+    let d = digits_fit 10 10 s (fitted _ c.is_fit.ensures c.n_digits-fault.ensures c.if-is_fit.true) in
     let n : length (drop 8 s) ≡ 2 = omega (arith, length-drop 8 s) in
     rw (cut 8 10 s (omega arith)) record { digits = all_drop is_digit 8 s d.digit; few = omega (arith, length-drop 8 s); enough = omega (arith, length-drop 8 s); small = rw n refl }
 
 pub returns-then-is_fit : goal.returns-then-is_fit
 unfolding mod97
 returns-then-is_fit c =
-    let b = c in
-    let s = b.args.s.now in
-    let f = fitted _ b.is_fit.ensures b.n_digits-fault.ensures c.if-is_fit.true in
+    let s = c.args.s.now in
+    let f = fitted _ c.is_fit.ensures c.n_digits-fault.ensures c.if-is_fit.true in
     let d = digits_fit 10 10 s f in
     let body = c.weighted-body.ensures.exact ∙ by_powers (take 8 s) (omega (arith, length-take 8 s)) in
     let check = rw (cut 8 10 s (omega arith)) at c.weighted-check.ensures.exact ∙ by_powers (drop 8 s) (omega (arith, length-drop 8 s)) in

@@ -18,17 +18,15 @@ slice_bounds-alternating-end c =
 
 pub alternating-requires : goal.alternating-requires
 alternating-requires c =
-    let b = c in
-    let s = b.args.s.now in
-    let d = italian_digits s (fitted _ b.is_fit.ensures b.italian-fault.ensures c.if-is_fit.true) in
+    let s = c.args.s.now in
+    let d = italian_digits s (fitted _ c.is_fit.ensures c.italian-fault.ensures c.if-is_fit.true) in
     rw (cut 2 13 s d.0) record { digits = d.1; few = omega (arith, length-drop 2 s); last_small = omega arith; before_small = omega arith }
 
 pub returns-then-is_fit : goal.returns-then-is_fit
 unfolding partita_iva
 returns-then-is_fit c =
-    let b = c in
-    let s = b.args.s.now in
-    let f = fitted _ b.is_fit.ensures b.italian-fault.ensures c.if-is_fit.true in
+    let s = c.args.s.now in
+    let f = fitted _ c.is_fit.ensures c.italian-fault.ensures c.if-is_fit.true in
     met _ f
     (ap (λ t. eqb (t % 10) 0) (c.alternating.ensures ∙ ap (total_by luhn) (cut 2 13 s (italian_digits s f).0)))
     c.decided.ensures

@@ -17,8 +17,7 @@ alternating-requires c =
 pub returns-then-is_fit : goal.returns-then-is_fit
 unfolding se_orgnr
 returns-then-is_fit c =
-    let b = c in
-    met _ (fitted _ b.is_fit.ensures b.n_digits-fault.ensures c.if-is_fit.true)
+    met _ (fitted _ c.is_fit.ensures c.n_digits-fault.ensures c.if-is_fit.true)
     (ap (λ t. eqb (t % 10) 0) c.alternating.ensures) c.decided.ensures
 
 pub returns : goal.returns

@@ -11,14 +11,10 @@ pub loop-i-init : goal.loop-i-init
 loop-i-init c = (omega arith, omega arith, omega arith, c.lead-sum.ensures.exact)
 
 pub part-requires : goal.part-requires
-part-requires c =
-    let a = c in
-    record { small = omega arith; digit = all_at is_digit a.args.s.now c.loop-i.i a.requires.digits (omega arith) }
+part-requires c = record { small = omega arith; digit = all_at is_digit c.args.s.now c.loop-i.i c.requires.digits (omega arith) }
 
 pub part-requires-in-loop-i : goal.part-requires-in-loop-i
-part-requires-in-loop-i c =
-    let a = c in
-    record { small = omega arith; digit = all_at is_digit a.args.s.now (c.loop-i.i + 1) a.requires.digits (omega arith) }
+part-requires-in-loop-i c = record { small = omega arith; digit = all_at is_digit c.args.s.now (c.loop-i.i + 1) c.requires.digits (omega arith) }
 
 pub loop-i-preserved : goal.loop-i-preserved
 loop-i-preserved c =

@@ -23,15 +23,13 @@ loop-i-init c = (omega arith, omega arith, omega arith)
 
 pub part-sum-requires : goal.part-sum-requires
 part-sum-requires c =
-    let a = c in
-    let i = c.loop-i.i in record { small = light a.args.weights.now (length a.args.s.now) (length a.args.s.now - 1 - i) a.requires.enough a.requires.small (omega arith); digit = all_at is_digit a.args.s.now i a.requires.digits (omega arith) }
+    let i = c.loop-i.i in record { small = light c.args.weights.now (length c.args.s.now) (length c.args.s.now - 1 - i) c.requires.enough c.requires.small (omega arith); digit = all_at is_digit c.args.s.now i c.requires.digits (omega arith) }
 
 -- what one digit adds
 small : (c : After-part-sum) → c.part-sum.result ≤ 90000000
 small c =
-    let a = c in
-    let k = length a.args.s.now - 1 - c.loop-i.i in
-    omega (arith, light a.args.weights.now (length a.args.s.now) k a.requires.enough a.requires.small (omega arith))
+    let k = length c.args.s.now - 1 - c.loop-i.i in
+    omega (arith, light c.args.weights.now (length c.args.s.now) k c.requires.enough c.requires.small (omega arith))
 
 pub overflow_add-sum : goal.overflow_add-sum
 overflow_add-sum c = omega (arith, small (goal.at.overflow_add-sum c).After-part-sum)

@@ -14,23 +14,21 @@ returns-then-text-i c = sym (c.loop-i.invariant ∙ wrong_end _ _ _ c.if-text-i.
 
 pub loop-i-preserved : goal.loop-i-preserved
 loop-i-preserved c =
-    let l = c in
-    let b = get_or l.args.text.now l.loop-i.i 0 in
-    l.loop-i.invariant
+    let b = get_or c.args.text.now c.loop-i.i 0 in
+    c.loop-i.invariant
     ∙ wrong_more _ _ _ c.if-text-i.false
     (ap (λ (k : ℕ). of_class k b)
-    (get_d_any l.args.head.now l.loop-i.i l.args.rest 0 c.loop-i-test.true)
+    (get_d_any c.args.head.now c.loop-i.i c.args.rest 0 c.loop-i-test.true)
     ∙ sym c.of_class.ensures ∙ c.if-of_class.true)
 
 pub returns-else-of_class : goal.returns-else-of_class
 returns-else-of_class c =
-    let l = c in
-    let b = get_or l.args.text.now l.loop-i.i 0 in
+    let b = get_or c.args.text.now c.loop-i.i 0 in
     sym
-    (l.loop-i.invariant
+    (c.loop-i.invariant
     ∙ wrong_here _ _ _ c.if-text-i.false
     (ap (λ (k : ℕ). of_class k b)
-    (get_d_any l.args.head.now l.loop-i.i l.args.rest 0 c.loop-i-test.true)
+    (get_d_any c.args.head.now c.loop-i.i c.args.rest 0 c.loop-i-test.true)
     ∙ sym c.of_class.ensures ∙ c.if-of_class.false))
 
 pub loop-i-2-init : goal.loop-i-2-init

@@ -6,6 +6,4 @@ pub returns-then-same_bytes : goal.returns-then-same_bytes
 returns-then-same_bytes c = word_none _ _ c.same_bytes.ensures c.if-same_bytes.true
 
 pub returns : goal.returns
-returns c =
-    let d = c in
-    word_code _ _ d.same_bytes.ensures d.if-same_bytes.false
+returns c = word_code _ _ c.same_bytes.ensures c.if-same_bytes.false

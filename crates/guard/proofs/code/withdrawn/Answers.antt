@@ -15,34 +15,25 @@ slice_bounds-same_bytes-end c =
 
 pub slice_bounds-successor-end : goal.slice_bounds-successor-end
 slice_bounds-successor-end c =
-    let d = c in
-    let h = row_size d.loop-i.i d.loop-i-test.true in
+    let h = row_size c.loop-i.i c.loop-i-test.true in
     omega arith
 
 pub successor-requires : goal.successor-requires
-successor-requires c =
-    let d = c in
-    word_size d.loop-i.i d.loop-i-test.true
+successor-requires c = word_size c.loop-i.i c.loop-i-test.true
 
 pub returns-then-same_bytes : goal.returns-then-same_bytes
 returns-then-same_bytes c =
-    let d = c in
-    let e = d in
     c.successor.ensures
-    ∙ ap successor_of (row_word e.loop-i.i e.loop-i-test.true)
-    ∙ sym (e.loop-i.invariant.2 ∙ row_hit e.loop-i.i _ e.loop-i-test.true (sym d.same_bytes.ensures ∙ c.if-same_bytes.true))
+    ∙ ap successor_of (row_word c.loop-i.i c.loop-i-test.true)
+    ∙ sym (c.loop-i.invariant.2 ∙ row_hit c.loop-i.i _ c.loop-i-test.true (sym c.same_bytes.ensures ∙ c.if-same_bytes.true))
 
 pub loop-i-preserved : goal.loop-i-preserved
-loop-i-preserved c =
-    let d = c in
-    let e = d in (
-      refl,
-      omega arith,
-      e.loop-i.invariant.2
-          ∙ row_miss e.loop-i.i _ e.loop-i-test.true (sym d.same_bytes.ensures ∙ c.if-same_bytes.false),
-    )
+loop-i-preserved c = (
+  refl,
+  omega arith,
+  c.loop-i.invariant.2
+      ∙ row_miss c.loop-i.i _ c.loop-i-test.true (sym c.same_bytes.ensures ∙ c.if-same_bytes.false),
+)
 
 pub returns : goal.returns
-returns c =
-    let d = c in
-    sym (d.loop-i.invariant.2 ∙ row_end d.loop-i.i _ c.loop-i-test.false)
+returns c = sym (c.loop-i.invariant.2 ∙ row_end c.loop-i.i _ c.loop-i-test.false)

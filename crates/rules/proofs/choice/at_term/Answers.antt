@@ -8,10 +8,10 @@ pub returns-then-scheme-ne4 : goal.returns-then-scheme-ne4
 returns-then-scheme-ne4 c = no_scheme _ c.if-scheme-ne4.true _
 
 pub returns-then-among : goal.returns-then-among
-returns-then-among c = tax_address c.args.scheme.now (omega arith) (λ i. omega (arith, c.shared_slice_known-1.given i)) _ _ c.key_of-key.ensures c.if-key-eq-SCHEME_9907.true (sym (sym c.among.ensures ∙ c.if-among.true))
+returns-then-among c = tax_address c.args.scheme.now (omega arith) (λ i. omega (arith, c.type_inv.scheme i)) _ _ c.key_of-key.ensures c.if-key-eq-SCHEME_9907.true (sym (sym c.among.ensures ∙ c.if-among.true))
 
 pub returns-then-key-eq-SCHEME_9907 : goal.returns-then-key-eq-SCHEME_9907
-returns-then-key-eq-SCHEME_9907 c = tax_elsewhere c.args.scheme.now (omega arith) (λ i. omega (arith, c.shared_slice_known-1.given i)) _ _ c.key_of-key.ensures c.if-key-eq-SCHEME_9907.true (sym (sym c.among.ensures ∙ c.if-among.false))
+returns-then-key-eq-SCHEME_9907 c = tax_elsewhere c.args.scheme.now (omega arith) (λ i. omega (arith, c.type_inv.scheme i)) _ _ c.key_of-key.ensures c.if-key-eq-SCHEME_9907.true (sym (sym c.among.ensures ∙ c.if-among.false))
 
 pub returns : goal.returns
-returns c = c.by_key.ensures ∙ other_scheme c.args.scheme.now (omega arith) (λ i. omega (arith, c.shared_slice_known-1.given i)) _ _ c.key_of-key.ensures c.if-key-eq-SCHEME_9907.false
+returns c = c.by_key.ensures ∙ other_scheme c.args.scheme.now (omega arith) (λ i. omega (arith, c.type_inv.scheme i)) _ _ c.key_of-key.ensures c.if-key-eq-SCHEME_9907.false

@@ -17,13 +17,13 @@ whole (a ∷ b ∷ c ∷ d ∷ []) two three four n e f g = omega arith
 whole (a ∷ b ∷ c ∷ d ∷ x ∷ s) two three four n e f g = absurd (omega arith)
 
 pub behind-two-requires : goal.behind-two-requires
-behind-two-requires c = omega (arith, c.shared_slice_known-3-1.given 0)
+behind-two-requires c = omega (arith, c.type_inv.scheme 0)
 
 pub behind-three-requires : goal.behind-three-requires
-behind-three-requires c = omega (arith, c.shared_slice_known-4-1.given 0, c.shared_slice_known-4-1.given 1)
+behind-three-requires c = omega (arith, c.type_inv.scheme 0, c.type_inv.scheme 1)
 
 pub behind-requires : goal.behind-requires
-behind-requires c = omega (arith, c.shared_slice_known-5-1.given 0, c.shared_slice_known-5-1.given 1, c.shared_slice_known-5-1.given 2)
+behind-requires c = omega (arith, c.type_inv.scheme 0, c.type_inv.scheme 1, c.type_inv.scheme 2)
 
 pub returns : goal.returns
 returns c =

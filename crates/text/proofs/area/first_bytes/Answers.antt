@@ -8,10 +8,9 @@ use Rattle.text.proofs.area.first_bytes.Goals as goal
 
 pub returns-then-n-area : goal.returns-then-n-area
 returns-then-n-area c =
-    let d = c in
-    let n = d.args.n in
+    let n = c.args.n in
     let e : n - 0 ≡ n = omega arith in
-    ap (λ k. take k d.args.area.now) e
+    ap (λ k. take k c.args.area.now) e
 
 pub returns : goal.returns
 returns c = sym (take_all c.args.n c.args.area.now (omega arith))

@@ -47,10 +47,8 @@ loop-at-init c = (omega arith, short _ (omega arith))
 
 pub returns-in_default : goal.returns-in_default
 returns-in_default c =
-    let d = c in
-    let l = d in
-    let s = l.args.s.now in
-    rw (at_refused s l.loop-at.at (omega arith) (sym c.in_default.is ∙ d.next_point.ensures)) at l.loop-at.invariant.1
+    let s = c.args.s.now in
+    rw (at_refused s c.loop-at.at (omega arith) (sym c.in_default.is ∙ c.next_point.ensures)) at c.loop-at.invariant.1
 
 pub overflow_add-at : goal.overflow_add-at
 overflow_add-at c = let f = fit (goal.at.overflow_add-at c).In-Point in omega arith
@@ -62,6 +60,4 @@ pub loop-at-preserved : goal.loop-at-preserved
 loop-at-preserved c = let f = fit (goal.at.loop-at-preserved c).In-Point in (omega arith, unread_on (S (goal.at.loop-at-preserved c).In-Point) c.loop-at.at _ _ (read (goal.at.loop-at-preserved c).In-Point) ∙ c.loop-at.invariant.1)
 
 pub returns : goal.returns
-returns c =
-    let l = c in
-    rw (at_last l.args.s.now l.loop-at.at (omega arith)) at l.loop-at.invariant.1
+returns c = rw (at_last c.args.s.now c.loop-at.at (omega arith)) at c.loop-at.invariant.1

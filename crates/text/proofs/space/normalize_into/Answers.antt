@@ -79,9 +79,8 @@ loop-at-preserved-then-joins c =
 
 pub returns-in_default : goal.returns-in_default
 returns-in_default c =
-    let d = c in
     c.refuse-in_default.ensures
-    ∙ stop d.loop-at.invariant.0 (omega arith) (sym c.in_default.is ∙ d.next_point.ensures)
+    ∙ stop c.loop-at.invariant.0 (omega arith) (sym c.in_default.is ∙ c.next_point.ensures)
 
 pub overflow_add-next : goal.overflow_add-next
 overflow_add-next c = let f = fit (goal.at.overflow_add-next c).In-Point in omega arith
@@ -91,12 +90,11 @@ loop-at-smaller-then-is_white c = let f = fit (goal.at.loop-at-smaller-then-is_w
 
 pub loop-at-preserved-then-is_white : goal.loop-at-preserved-then-is_white
 loop-at-preserved-then-is_white c =
-    let d = c in
-    let l = d.loop-at in
-    let f = fit (goal.at.loop-at-preserved-then-is_white d).In-Point in
-    let w : is_white (C (goal.at.loop-at-preserved-then-is_white d).In-Point) ≡ true = sym c.is_white.ensures ∙ c.if-is_white.true in (
-      pass l.invariant.0 (C (goal.at.loop-at-preserved-then-is_white d).In-Point) (K (goal.at.loop-at-preserved-then-is_white d).In-Point) (read (goal.at.loop-at-preserved-then-is_white d).In-Point) _
-          (λ ps. spaced_white _ _ ps w ∙ ap (λ m. coming m ps) (mode_white l.n l.end l.at (l.at + K (goal.at.loop-at-preserved-then-is_white d).In-Point) (omega arith))),
+    let l = c.loop-at in
+    let f = fit (goal.at.loop-at-preserved-then-is_white c).In-Point in
+    let w : is_white (C (goal.at.loop-at-preserved-then-is_white c).In-Point) ≡ true = sym c.is_white.ensures ∙ c.if-is_white.true in (
+      pass l.invariant.0 (C (goal.at.loop-at-preserved-then-is_white c).In-Point) (K (goal.at.loop-at-preserved-then-is_white c).In-Point) (read (goal.at.loop-at-preserved-then-is_white c).In-Point) _
+          (λ ps. spaced_white _ _ ps w ∙ ap (λ m. coming m ps) (mode_white l.n l.end l.at (l.at + K (goal.at.loop-at-preserved-then-is_white c).In-Point) (omega arith))),
       omega arith,
       omega arith,
     )
@@ -133,24 +131,21 @@ loop-at-smaller-then-parted c = let b = bounds (goal.at.loop-at-smaller-then-par
 pub loop-at-preserved-then-parted : goal.loop-at-preserved-then-parted
 unfolding pick
 loop-at-preserved-then-parted c =
-    let e = c in
-    let d = e in
-    let l = d.loop-at in
-    let b = bounds (goal.at.loop-at-preserved-then-parted d).In-Point in
-    let h = behind (goal.at.loop-at-preserved-then-parted e).Then-parted in
-    let w : is_white (C (goal.at.loop-at-preserved-then-parted d).In-Point) ≡ false = sym e.is_white.ensures ∙ e.if-is_white.false in
-    let q : true ≡ ltb 0 l.n && ltb l.end l.at = sym e.if-parted.true ∙ e.parted.ensures in (
-      add_spaced l.invariant.0 (C (goal.at.loop-at-preserved-then-parted d).In-Point) (K (goal.at.loop-at-preserved-then-parted d).In-Point) (read (goal.at.loop-at-preserved-then-parted d).In-Point) _ l.end _ (omega arith) c.copy.ensures
-          (spaced_dark (l.n + 1 + K (goal.at.loop-at-preserved-then-parted d).In-Point) l.n l.end l.at (C (goal.at.loop-at-preserved-then-parted d).In-Point) (K (goal.at.loop-at-preserved-then-parted d).In-Point) (S (goal.at.loop-at-preserved-then-parted d).In-Point) true w q (omega arith) (short (goal.at.loop-at-preserved-then-parted d).In-Point)),
+    let l = c.loop-at in
+    let b = bounds (goal.at.loop-at-preserved-then-parted c).In-Point in
+    let h = behind (goal.at.loop-at-preserved-then-parted c).Then-parted in
+    let w : is_white (C (goal.at.loop-at-preserved-then-parted c).In-Point) ≡ false = sym c.is_white.ensures ∙ c.if-is_white.false in
+    let q : true ≡ ltb 0 l.n && ltb l.end l.at = sym c.if-parted.true ∙ c.parted.ensures in (
+      add_spaced l.invariant.0 (C (goal.at.loop-at-preserved-then-parted c).In-Point) (K (goal.at.loop-at-preserved-then-parted c).In-Point) (read (goal.at.loop-at-preserved-then-parted c).In-Point) _ l.end _ (omega arith) c.copy.ensures
+          (spaced_dark (l.n + 1 + K (goal.at.loop-at-preserved-then-parted c).In-Point) l.n l.end l.at (C (goal.at.loop-at-preserved-then-parted c).In-Point) (K (goal.at.loop-at-preserved-then-parted c).In-Point) (S (goal.at.loop-at-preserved-then-parted c).In-Point) true w q (omega arith) (short (goal.at.loop-at-preserved-then-parted c).In-Point)),
       omega arith,
       omega arith,
     )
 
 pub copy-requires-else-parted : goal.copy-requires-else-parted
 copy-requires-else-parted c =
-    let d = c in
-    let b = bounds (goal.at.copy-requires-else-parted d).In-Point in
-    (b.0, b.1, omega arith, area_long d.loop-at.invariant.0)
+    let b = bounds (goal.at.copy-requires-else-parted c).In-Point in
+    (b.0, b.1, omega arith, area_long c.loop-at.invariant.0)
 
 pub overflow_add-n-else-parted : goal.overflow_add-n-else-parted
 overflow_add-n-else-parted c = let b = bounds (goal.at.overflow_add-n-else-parted c).In-Point in omega arith
@@ -161,14 +156,12 @@ loop-at-smaller c = let b = bounds (goal.at.loop-at-smaller c).In-Point in omega
 pub loop-at-preserved : goal.loop-at-preserved
 unfolding pick
 loop-at-preserved c =
-    let e = c in
-    let d = e in
-    let l = d.loop-at in
-    let b = bounds (goal.at.loop-at-preserved d).In-Point in
-    let w : is_white (C (goal.at.loop-at-preserved d).In-Point) ≡ false = sym e.is_white.ensures ∙ e.if-is_white.false in
-    let q : false ≡ ltb 0 l.n && ltb l.end l.at = sym e.if-parted.false ∙ e.parted.ensures in (
-      add l.invariant.0 (C (goal.at.loop-at-preserved d).In-Point) (K (goal.at.loop-at-preserved d).In-Point) (read (goal.at.loop-at-preserved d).In-Point) _ _ c.copy-else-parted.ensures
-          (spaced_dark (l.n + K (goal.at.loop-at-preserved d).In-Point) l.n l.end l.at (C (goal.at.loop-at-preserved d).In-Point) (K (goal.at.loop-at-preserved d).In-Point) (S (goal.at.loop-at-preserved d).In-Point) false w q (omega arith) (short (goal.at.loop-at-preserved d).In-Point)),
+    let l = c.loop-at in
+    let b = bounds (goal.at.loop-at-preserved c).In-Point in
+    let w : is_white (C (goal.at.loop-at-preserved c).In-Point) ≡ false = sym c.is_white.ensures ∙ c.if-is_white.false in
+    let q : false ≡ ltb 0 l.n && ltb l.end l.at = sym c.if-parted.false ∙ c.parted.ensures in (
+      add l.invariant.0 (C (goal.at.loop-at-preserved c).In-Point) (K (goal.at.loop-at-preserved c).In-Point) (read (goal.at.loop-at-preserved c).In-Point) _ _ c.copy-else-parted.ensures
+          (spaced_dark (l.n + K (goal.at.loop-at-preserved c).In-Point) l.n l.end l.at (C (goal.at.loop-at-preserved c).In-Point) (K (goal.at.loop-at-preserved c).In-Point) (S (goal.at.loop-at-preserved c).In-Point) false w q (omega arith) (short (goal.at.loop-at-preserved c).In-Point)),
       omega arith,
       omega arith,
     )

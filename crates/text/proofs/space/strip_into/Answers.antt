@@ -60,9 +60,8 @@ loop-at-preserved-then-is_dark_byte c =
 
 pub returns-in_default : goal.returns-in_default
 returns-in_default c =
-    let d = c in
     c.refuse-in_default.ensures
-    ∙ stop d.loop-at.invariant (omega arith) (sym c.in_default.is ∙ d.next_point.ensures)
+    ∙ stop c.loop-at.invariant (omega arith) (sym c.in_default.is ∙ c.next_point.ensures)
 
 pub overflow_add-next : goal.overflow_add-next
 overflow_add-next c = let f = fit (goal.at.overflow_add-next c).In-Point in omega arith
@@ -72,14 +71,12 @@ loop-at-smaller-then-is_white c = let f = fit (goal.at.loop-at-smaller-then-is_w
 
 pub loop-at-preserved-then-is_white : goal.loop-at-preserved-then-is_white
 loop-at-preserved-then-is_white c =
-    let d = c in
-    pass d.loop-at.invariant (C (goal.at.loop-at-preserved-then-is_white d).In-Point) (K (goal.at.loop-at-preserved-then-is_white d).In-Point) (read (goal.at.loop-at-preserved-then-is_white d).In-Point) stripped (λ ps. stripped_white _ ps (sym c.is_white.ensures ∙ c.if-is_white.true))
+    pass c.loop-at.invariant (C (goal.at.loop-at-preserved-then-is_white c).In-Point) (K (goal.at.loop-at-preserved-then-is_white c).In-Point) (read (goal.at.loop-at-preserved-then-is_white c).In-Point) stripped (λ ps. stripped_white _ ps (sym c.is_white.ensures ∙ c.if-is_white.true))
 
 pub copy-requires : goal.copy-requires
 copy-requires c =
-    let d = c in
-    let f = fit (goal.at.copy-requires d).In-Point in
-    let i = d.loop-at.invariant in
+    let f = fit (goal.at.copy-requires c).In-Point in
+    let i = c.loop-at.invariant in
     let p = i.room in
     let q = i.short in
     (f.0, f.1, omega arith, area_long i)
@@ -92,10 +89,8 @@ loop-at-smaller c = let f = fit (goal.at.loop-at-smaller c).In-Point in omega ar
 
 pub loop-at-preserved : goal.loop-at-preserved
 loop-at-preserved c =
-    let e = c in
-    let d = e in
-    add d.loop-at.invariant (C (goal.at.loop-at-preserved d).In-Point) (K (goal.at.loop-at-preserved d).In-Point) (read (goal.at.loop-at-preserved d).In-Point) stripped _ c.copy.ensures
-    (λ ps. stripped_dark _ ps (sym e.is_white.ensures ∙ e.if-is_white.false))
+    add c.loop-at.invariant (C (goal.at.loop-at-preserved c).In-Point) (K (goal.at.loop-at-preserved c).In-Point) (read (goal.at.loop-at-preserved c).In-Point) stripped _ c.copy.ensures
+    (λ ps. stripped_dark _ ps (sym c.is_white.ensures ∙ c.if-is_white.false))
 
 pub returns : goal.returns
 unfolding stripped words parts closed cells_of
