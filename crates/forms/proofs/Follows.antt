@@ -8,9 +8,10 @@ use Rattle.ascii.specs.Pick.{pick}
 use Rattle.ascii.specs.Class.{within, is_digit, is_plain, all}
 use Rattle.ascii.proofs.Tests.{and_true}
 use Rattle.ascii.proofs.Class.{bounds}
+use Rattle.std.specs.Prelude.{Result, Err, is_ok, ⊤}
 use Rattle.forms.specs.declared.form.Fault.{Fault}
 use Rattle.forms.specs.declared.form.Fault.TheVariants.{Length, At}
-use Rattle.forms.specs.Form.{Form, of_class, class_at, wrong, fault_of, is_fit, fits}
+use Rattle.forms.specs.Form.{Form, of_class, class_at, wrong, fault_of, fits}
 use Rattle.forms.proofs.Laws.{class_digit, class_plain}
 
 -- each byte is of its class: first those of the head, and then the rest
@@ -19,40 +20,40 @@ follows [] r s = all (of_class r) s
 follows (k ∷ h) r [] = true
 follows (k ∷ h) r (b ∷ s) = of_class k b && follows h r s
 
-pub fit_pick : (t : Bool) (x y : Fault) → is_fit y ≡ false → is_fit (pick t x y) ≡ t && is_fit x
+pub fit_pick : (t : Bool) (x y : Result ⊤ Fault) → is_ok y ≡ false → is_ok (pick t x y) ≡ t && is_ok x
 unfolding pick
 fit_pick true x y e = refl
 fit_pick false x y e = e
 
 -- a head's first class is passed over with the first byte
-behind : (k : ℕ) (h : List ℕ) (r i : ℕ) (s : List ℕ) → is_fit (wrong (class_at (k ∷ h) r) (suc i) s) ≡ is_fit (wrong (class_at h r) i s)
+behind : (k : ℕ) (h : List ℕ) (r i : ℕ) (s : List ℕ) → is_ok (wrong (class_at (k ∷ h) r) (suc i) s) ≡ is_ok (wrong (class_at h r) i s)
 unfolding wrong
 behind k h r i [] = refl
 behind k h r i (b ∷ s) =
     let t = of_class (class_at h r i) b in
-    fit_pick t (wrong (class_at (k ∷ h) r) (suc (suc i)) s) (At (suc i)) refl
+    fit_pick t (wrong (class_at (k ∷ h) r) (suc (suc i)) s) (Err (At (suc i))) refl
     ∙ ap (λ (x : Bool). t && x) (behind k h r (suc i) s)
-    ∙ sym (fit_pick t (wrong (class_at h r) (suc i) s) (At i) refl)
+    ∙ sym (fit_pick t (wrong (class_at h r) (suc i) s) (Err (At i)) refl)
 
-plain_walk : (r i : ℕ) (s : List ℕ) → is_fit (wrong (class_at [] r) i s) ≡ all (of_class r) s
+plain_walk : (r i : ℕ) (s : List ℕ) → is_ok (wrong (class_at [] r) i s) ≡ all (of_class r) s
 unfolding wrong all
 plain_walk r i [] = refl
 plain_walk r i (b ∷ s) =
-    fit_pick (of_class r b) (wrong (class_at [] r) (suc i) s) (At i) refl ∙ ap (λ (x : Bool). of_class r b && x) (plain_walk r (suc i) s)
+    fit_pick (of_class r b) (wrong (class_at [] r) (suc i) s) (Err (At i)) refl ∙ ap (λ (x : Bool). of_class r b && x) (plain_walk r (suc i) s)
 
-walk : (h : List ℕ) (r : ℕ) (s : List ℕ) → is_fit (wrong (class_at h r) 0 s) ≡ follows h r s
+walk : (h : List ℕ) (r : ℕ) (s : List ℕ) → is_ok (wrong (class_at h r) 0 s) ≡ follows h r s
 unfolding wrong
 walk [] r s = plain_walk r 0 s
 walk (k ∷ h) r [] = refl
 walk (k ∷ h) r (b ∷ s) =
-    fit_pick (of_class k b) (wrong (class_at (k ∷ h) r) 1 s) (At 0) refl
+    fit_pick (of_class k b) (wrong (class_at (k ∷ h) r) 1 s) (Err (At 0)) refl
     ∙ ap (λ (x : Bool). of_class k b && x) (behind k h r 0 s ∙ walk h r s)
 
 pub fits_follows : (f : Form) (s : List ℕ) → fits f s ≡ within f.least f.most (length s) && follows f.head f.rest s
 unfolding fits fault_of
 fits_follows f s =
     let t = within f.least f.most (length s) in
-    fit_pick t (wrong (class_at f.head f.rest) 0 s) Length refl ∙ ap (λ (x : Bool). t && x) (walk f.head f.rest s)
+    fit_pick t (wrong (class_at f.head f.rest) 0 s) (Err Length) refl ∙ ap (λ (x : Bool). t && x) (walk f.head f.rest s)
 
 -- ---- the classes of a list
 

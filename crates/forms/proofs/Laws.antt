@@ -12,8 +12,9 @@ use lib.Dec.{eqb}
 use Rattle.ascii.specs.Pick.{pick}
 use Rattle.ascii.specs.Class.{within, is_digit, is_letter, is_plain}
 use Rattle.ascii.proofs.Class.{inside, below, above}
+use Rattle.std.specs.Prelude.{Result, Ok, Err, ⊤}
 use Rattle.forms.specs.declared.form.Fault.{Fault}
-use Rattle.forms.specs.declared.form.Fault.TheVariants.{Fits, Length, At}
+use Rattle.forms.specs.declared.form.Fault.TheVariants.{Length, At}
 use Rattle.forms.specs.Form.{Form, of_class, class_at, wrong, fault_of}
 use Rattle.forms.specs.Table.{italian_of}
 
@@ -45,21 +46,21 @@ module _ (f : ℕ → ℕ) (s : List ℕ) (i : ℕ) where
   unfolding wrong pick
   wrong_more h t = rw (add-one i, drop-cons s i 0 h, t) refl
 
-  pub wrong_here : i < length s → of_class (f i) (get_or s i 0) ≡ false → wrong f i (drop i s) ≡ At i
+  pub wrong_here : i < length s → of_class (f i) (get_or s i 0) ≡ false → wrong f i (drop i s) ≡ Err (At i)
   unfolding wrong pick
   wrong_here h t = rw (drop-cons s i 0 h, t) refl
 
-  pub wrong_end : length s ≤ i → wrong f i (drop i s) ≡ Fits
+  pub wrong_end : length s ≤ i → wrong f i (drop i s) ≡ Ok tt
   unfolding wrong
   wrong_end h = rw (drop_of_length-le s h) refl
 
 -- the length first, and then the bytes
 module _ (f : Form) (s : List ℕ) where
-  pub fault_short : length s < f.least → fault_of f s ≡ Length
+  pub fault_short : length s < f.least → fault_of f s ≡ Err Length
   unfolding fault_of pick
   fault_short h = rw (below f.least f.most (length s) h) refl
 
-  pub fault_long : f.most < length s → fault_of f s ≡ Length
+  pub fault_long : f.most < length s → fault_of f s ≡ Err Length
   unfolding fault_of pick
   fault_long h = rw (above f.least f.most (length s) h) refl
 
@@ -68,7 +69,7 @@ module _ (f : Form) (s : List ℕ) where
   fault_inside h g = rw (inside f.least f.most (length s) h g) refl
 
 -- a form that is picked by a test
-module _ {t : Bool} {x : Fault} (f g : Form) (s : List ℕ) where
+module _ {t : Bool} {x : Result ⊤ Fault} (f g : Form) (s : List ℕ) where
   pub picked_first : t ≡ true → x ≡ fault_of f s → x ≡ fault_of (pick t f g) s
   unfolding pick
   picked_first h e = rw h e
@@ -77,7 +78,7 @@ module _ {t : Bool} {x : Fault} (f g : Form) (s : List ℕ) where
   unfolding pick
   picked_second h e = rw h e
 
-pub fault_empty : (s : List ℕ) → length s ≡ 0 → Length ≡ fault_of (italian_of s) s
+pub fault_empty : (s : List ℕ) → length s ≡ 0 → Err Length ≡ fault_of (italian_of s) s
 unfolding within fault_of pick
 fault_empty [] h = refl
 fault_empty (b ∷ s) h = cc

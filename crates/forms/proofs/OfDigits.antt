@@ -7,7 +7,7 @@ use lib.ListN.{length}
 use Rattle.ascii.specs.Class.{within, is_digit, all}
 use Rattle.ascii.proofs.Tests.{and_true, true_and}
 use Rattle.ascii.proofs.Class.{inside, bounds}
-use Rattle.forms.specs.declared.form.Fault.TheVariants.{Fits}
+use Rattle.std.specs.Prelude.{Ok}
 use Rattle.forms.specs.Form.{fault_of, fits}
 use Rattle.forms.specs.Table.{digits}
 use Rattle.forms.proofs.Meaning.{fault_fits, fits_fault}
@@ -32,8 +32,8 @@ module _ (a b : ℕ) (s : List ℕ) where
   true_digits d = fits_digits a b s ∙ true_and _ _ (inside a b (length s) d.least d.most) d.digit
 
   -- the same of the code's answer
-  pub digits_fit : fault_of (digits a b) s ≡ Fits → Digits a b s
+  pub digits_fit : fault_of (digits a b) s ≡ Ok tt → Digits a b s
   digits_fit e = digits_true (fault_fits (digits a b) s e)
 
-  pub fit_digits : Digits a b s → fault_of (digits a b) s ≡ Fits
+  pub fit_digits : Digits a b s → fault_of (digits a b) s ≡ Ok tt
   fit_digits d = fits_fault (digits a b) s (true_digits d)
