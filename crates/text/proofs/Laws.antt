@@ -17,7 +17,7 @@ use Rattle.text.specs.declared.reading.Reading.{Reading}
 use Rattle.text.specs.declared.reading.Reading.TheVariants.{AsItStands, Normalised, Stripped}
 use Rattle.text.specs.Content.{Piece, Cell, Content, malformed, content, content_from, content_of, cells, cells_of, codes}
 use Rattle.text.specs.Words.{words, space_after, spaced, closed, normal, stripped}
-use Rattle.text.specs.Answer.{why_refused, readable_of, padded, kept, refusal, on_content, answer, normal_text, stripped_text, text_of, text_by}
+use Rattle.text.specs.Answer.{why_refused, readable_of, padded, kept, refusal, on_content, answer, normal_text, stripped_text, len_of, without_len, text_of, text_by}
 use Rattle.text.specs.Neat.{All, Dark, Neat, bytes_of}
 use Rattle.text.proofs.Rows.{row_1}
 use Rattle.text.proofs.Padded.{length_padded}
@@ -46,21 +46,21 @@ pub record Taken (s : List ℕ) : Type 0 where
 
 -- ---- normalising and stripping refuse what can't be read, by the same reason
 
-reason_on : (c : Content) (f : List Piece → List Cell) → (on_content c f).reason ≡ why_refused c
+reason_on : (c : Content) (f : List Piece → List Cell) → without_len (on_content c f).kept ≡ why_refused c
 unfolding kept refusal
 reason_on malformed f = refl
 reason_on (content ps) f = refl
 
-reason_at : (f : List Piece → List Cell) (s : List ℕ) (t : Bool) → leb (length s) 1024 ≡ t → (answer f s).reason ≡ readable_of s
+reason_at : (f : List Piece → List Cell) (s : List ℕ) (t : Bool) → leb (length s) 1024 ≡ t → without_len (answer f s).kept ≡ readable_of s
 unfolding answer readable_of refusal pick
 reason_at f s true e = rw e (reason_on (content_of s) f)
 reason_at f s false e = rw e
 
-pub reason_normal : (s : List ℕ) → (normal_text s).reason ≡ readable_of s
+pub reason_normal : (s : List ℕ) → without_len (normal_text s).kept ≡ readable_of s
 unfolding normal_text
 reason_normal s = reason_at normal s (leb (length s) 1024) refl
 
-pub reason_stripped : (s : List ℕ) → (stripped_text s).reason ≡ readable_of s
+pub reason_stripped : (s : List ℕ) → without_len (stripped_text s).kept ≡ readable_of s
 unfolding stripped_text
 reason_stripped s = reason_at stripped s (leb (length s) 1024) refl
 
@@ -106,16 +106,16 @@ module _ (f : List Piece → List Cell) (g : List Piece → List Piece) (k : Pic
       (λ t. let r = read s t.points t.reads in rw (text_taken s t, ← r.bytes) (k.short t.points (solid t.points r.sound)))
       (taken f s)
 
-  len_taken : (s : List ℕ) (t : Taken s) → (answer f s).len ≡ length (text_of (answer f s))
+  len_taken : (s : List ℕ) (t : Taken s) → len_of (answer f s).kept ≡ length (text_of (answer f s))
   unfolding kept
   len_taken s t = rw (answer_taken f s t, text_kept (f t.points)) (sym (simp length-map))
 
   -- its length is the answer's, and it fits the area
-  len_text : (s : List ℕ) → (answer f s).len ≡ length (text_of (answer f s))
+  len_text : (s : List ℕ) → len_of (answer f s).kept ≡ length (text_of (answer f s))
   unfolding refusal
   len_text s = ⊎_elim (λ r. rw r.1) (λ t. len_taken s t) (outcome f s)
 
-  len_fits : (s : List ℕ) → ((answer f s).len ≤ length s) × ((answer f s).len ≤ 1024)
+  len_fits : (s : List ℕ) → (len_of (answer f s).kept ≤ length s) × (len_of (answer f s).kept ≤ 1024)
   unfolding refusal
   len_fits s =
       let a = len_text s in
@@ -199,11 +199,11 @@ neat s =
     (taken normal s)
 
 -- its length is the answer's, which fits the area
-pub text_length : (s : List ℕ) → (normal_text s).len ≡ length (text_of (normal_text s))
+pub text_length : (s : List ℕ) → len_of (normal_text s).kept ≡ length (text_of (normal_text s))
 unfolding normal_text
 text_length s = len_text normal tidy picks_normal s
 
-pub text_fits : (s : List ℕ) → ((normal_text s).len ≤ length s) × ((normal_text s).len ≤ 1024)
+pub text_fits : (s : List ℕ) → (len_of (normal_text s).kept ≤ length s) × (len_of (normal_text s).kept ≤ 1024)
 unfolding normal_text
 text_fits s = len_fits normal tidy picks_normal s
 
@@ -267,11 +267,11 @@ strip_dark s =
     (taken stripped s)
 
 -- its length is the answer's, which fits the area
-pub strip_length : (s : List ℕ) → (stripped_text s).len ≡ length (text_of (stripped_text s))
+pub strip_length : (s : List ℕ) → len_of (stripped_text s).kept ≡ length (text_of (stripped_text s))
 unfolding stripped_text
 strip_length s = len_text stripped dense picks_stripped s
 
-pub strip_fits : (s : List ℕ) → ((stripped_text s).len ≤ length s) × ((stripped_text s).len ≤ 1024)
+pub strip_fits : (s : List ℕ) → (len_of (stripped_text s).kept ≤ length s) × (len_of (stripped_text s).kept ≤ 1024)
 unfolding stripped_text
 strip_fits s = len_fits stripped dense picks_stripped s
 

@@ -9,12 +9,13 @@ use borrow.Author.Tests.{leb-true}
 use lib.Dec.{leb}
 use lib.ListN.{length, take, drop, length-drop, drop_of_length-le}
 use lib.Seq.{drop-nil, drop-drop, drop-cons}
-use Rattle.text.specs.declared.utf8.Step.{Step}
-use Rattle.text.specs.declared.utf8.Step.TheVariants.{Point, Refused}
+use Rattle.text.specs.declared.utf8.Point.{Point}
+use Rattle.std.specs.Prelude.{Option, None, Ok}
+use Rattle.std.proofs.lemmas.Option.{same_Some}
+use Rattle.text.specs.Utf8.{point}
 use Rattle.ascii.specs.Pick.{pick}
 use Rattle.ascii.specs.Class.{all}
 use Rattle.ascii.proofs.Class.{all_first, all_rest}
-use Rattle.answer.specs.declared.reason.Reason.TheVariants.{NoReason}
 use Rattle.text.specs.Utf8.{two, three, four, step_of}
 use Rattle.text.specs.Content.{Piece, Cell, Content, malformed, content, with_first, content_from, cells}
 use Rattle.text.specs.Answer.{why_refused, on_content}
@@ -23,22 +24,22 @@ use Rattle.text.proofs.Rows.{row_1}
 -- ---- a point takes one byte at least, no more than there are, and is read from its own bytes, whatever follows
 
 -- what a step x of m bytes says of the steps y, by the number of bytes that are kept
-record Own (m : ℕ) (x : Step) (y : ℕ → Step) : Type 0 where
-  get : (c n : ℕ) → x ≡ Point c n → (1 ≤ n) × (n ≤ m) × (y n ≡ Point c n)
+record Own (m : ℕ) (x : Option Point) (y : ℕ → Option Point) : Type 0 where
+  get : (c n : ℕ) → x ≡ point c n → (1 ≤ n) × (n ≤ m) × (y n ≡ point c n)
 
-own_refused : (m : ℕ) (y : ℕ → Step) → Own m Refused y
+own_refused : (m : ℕ) (y : ℕ → Option Point) → Own m None y
 own_refused m y = record { get = λ c n e. absurd (let z : ◌≡◌ {A = ℕ} 0 1 = cc in omega arith) }
 
-own_pick : (t : Bool) {m : ℕ} {x x' : Step} {y y' : ℕ → Step} → Own m x y → Own m x' y' → Own m (pick t x x') (λ n. pick t (y n) (y' n))
+own_pick : (t : Bool) {m : ℕ} {x x' : Option Point} {y y' : ℕ → Option Point} → Own m x y → Own m x' y' → Own m (pick t x x') (λ n. pick t (y n) (y' n))
 unfolding pick
 own_pick true p q = p
 own_pick false p q = q
 
-own_one : (c k : ℕ) {m : ℕ} (y : ℕ → Step) → 1 ≤ k → k ≤ m → y k ≡ Point c k → Own m (Point c k) y
+own_one : (c k : ℕ) {m : ℕ} (y : ℕ → Option Point) → 1 ≤ k → k ≤ m → y k ≡ point c k → Own m (point c k) y
 own_one c k {m} y h l e =
-    record { get = λ d n f. let g : k ≡ n = cc in subst (λ (j : ℕ). (1 ≤ j) × (j ≤ m) × (y j ≡ Point d n)) g (h, l, e ∙ f) }
+    record { get = λ d n f. let g : k ≡ n = ap (λ (p : Point). p.len) (same_Some _ _ f) in subst (λ (j : ℕ). (1 ≤ j) × (j ≤ m) × (y j ≡ point d n)) g (h, l, e ∙ f) }
 
-own_point : (t : Bool) (c k : ℕ) {m : ℕ} (y : ℕ → Step) → 1 ≤ k → k ≤ m → y k ≡ pick t (Point c k) Refused → Own m (pick t (Point c k) Refused) y
+own_point : (t : Bool) (c k : ℕ) {m : ℕ} (y : ℕ → Option Point) → 1 ≤ k → k ≤ m → y k ≡ pick t (point c k) None → Own m (pick t (point c k) None) y
 unfolding pick
 own_point true c k y h l e = own_one c k y h l e
 own_point false c k y h l e = own_refused _ y
@@ -75,12 +76,12 @@ own_step r a l =
     (own_pick _ (own_four r a _ _ l)
     (own_pick _ (own_four r a _ _ l) (own_refused _ _)))))))))
 
-pub point_good : (l : List ℕ) (c n : ℕ) → Point c n ≡ step_of l → (1 ≤ n) × (n ≤ length l)
+pub point_good : (l : List ℕ) (c n : ℕ) → point c n ≡ step_of l → (1 ≤ n) × (n ≤ length l)
 unfolding step_of
 point_good [] c n e = absurd (let z : ◌≡◌ {A = ℕ} 0 1 = cc in omega arith)
 point_good (a ∷ l) c n e = let p = (own_step [] a l).get c n (sym e) in (p.0, p.1)
 
-pub own_bytes : (r l : List ℕ) (c n : ℕ) → Point c n ≡ step_of l → step_of (take n l ++ r) ≡ Point c n
+pub own_bytes : (r l : List ℕ) (c n : ℕ) → point c n ≡ step_of l → step_of (take n l ++ r) ≡ point c n
 own_bytes r [] c n e = absurd (let h = point_good [] c n e in omega arith)
 own_bytes r (a ∷ l) c zero e = absurd (let h = point_good (a ∷ l) c zero e in omega arith)
 own_bytes r (a ∷ l) c (suc m) e =
@@ -96,7 +97,7 @@ skip o k [] = rw drop-nil
 skip o zero (a ∷ l) = rw add-zero
 skip o (suc k) (a ∷ l) = rw (add-suc, ← suc-add) (skip (suc o) k l)
 
-pub unroll_list : (o c n : ℕ) (l : List ℕ) → Point c n ≡ step_of l
+pub unroll_list : (o c n : ℕ) (l : List ℕ) → point c n ≡ step_of l
     → content_from o 0 l ≡ with_first (record { at = o; code = c; bytes = take n l }) (content_from (o + n) 0 (drop n l))
 unfolding content_from
 unroll_list o c n [] e = absurd (let h = point_good [] c n e in omega arith)
@@ -114,7 +115,7 @@ abbrev pub single : ℕ → Bool
 single b = leb b 0x7f
 
 -- such bytes can be read
-pub unread_ascii : (o : ℕ) (s : List ℕ) → all single s ≡ true → why_refused (content_from o 0 s) ≡ NoReason
+pub unread_ascii : (o : ℕ) (s : List ℕ) → all single s ≡ true → why_refused (content_from o 0 s) ≡ Ok tt
 unfolding content_from
 unread_ascii o [] e = refl
 unread_ascii o (a ∷ l) e =
@@ -125,17 +126,17 @@ module _ (s : List ℕ) (at : ℕ) where
   abbrev pub rest : Content
   rest = content_from at 0 (drop at s)
 
-  pub point_fits : at ≤ length s → (c n : ℕ) → Point c n ≡ step_of (drop at s) → (1 ≤ n) × (at + n ≤ length s)
+  pub point_fits : at ≤ length s → (c n : ℕ) → point c n ≡ step_of (drop at s) → (1 ≤ n) × (at + n ≤ length s)
   point_fits p c n e = let h = point_good (drop at s) c n e in let k = rw length-drop at h.1 in (h.0, omega arith)
 
-  pub unroll : (c n : ℕ) → Point c n ≡ step_of (drop at s)
+  pub unroll : (c n : ℕ) → point c n ≡ step_of (drop at s)
       → rest ≡ with_first (record { at = at; code = c; bytes = take n (drop at s) }) (content_from (at + n) 0 (drop (at + n) s))
   unroll c n e = rw (← drop-drop n at s) (unroll_list at c n (drop at s) e)
 
-  pub unread_on : (c n : ℕ) → Point c n ≡ step_of (drop at s) → why_refused (content_from (at + n) 0 (drop (at + n) s)) ≡ why_refused rest
+  pub unread_on : (c n : ℕ) → point c n ≡ step_of (drop at s) → why_refused (content_from (at + n) 0 (drop (at + n) s)) ≡ why_refused rest
   unread_on c n e = rw (unroll c n e) (unread_first _ (content_from (at + n) 0 (drop (at + n) s)))
 
-  pub at_refused : at < length s → Refused ≡ step_of (drop at s) → rest ≡ malformed
+  pub at_refused : at < length s → None ≡ step_of (drop at s) → rest ≡ malformed
   unfolding content_from
   at_refused h e = rw (drop-cons s at 0 h, ← (e ∙ ap step_of (drop-cons s at 0 h)))
 
@@ -149,7 +150,7 @@ on_content_first p malformed f g e = refl
 on_content_first p (content ps) f g e = rw (e ps)
 
 -- one turn: the point that was read goes from what is left to what is done
-pub advance : (s : List ℕ) (at c n : ℕ) (f g : List Piece → List Cell) → Point c n ≡ step_of (drop at s)
+pub advance : (s : List ℕ) (at c n : ℕ) (f g : List Piece → List Cell) → point c n ≡ step_of (drop at s)
     → ((ps : List Piece) → f (record { at = at; code = c; bytes = take n (drop at s) } ∷ ps) ≡ g ps)
     → on_content (rest s (at + n)) g ≡ on_content (rest s at) f
 advance s at c n f g e h = rw (unroll s at c n e) (sym (on_content_first _ (rest s (at + n)) f g h))

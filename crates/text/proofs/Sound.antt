@@ -7,8 +7,9 @@ use native.Mathlib.Nat.{add-zero, add-suc, suc-add}
 use native.Mathlib.Omega.{arith}
 use lib.ListN.{length, take, drop, take-append-drop}
 use lib.Seq.{drop-nil, length-take-le, take-append_seam, drop-append_seam}
-use Rattle.text.specs.declared.utf8.Step.{Step}
-use Rattle.text.specs.declared.utf8.Step.TheVariants.{Point, Refused}
+use Rattle.text.specs.declared.utf8.Point.{Point}
+use Rattle.std.specs.Prelude.{Option, Some, None}
+use Rattle.text.specs.Utf8.{point}
 use Rattle.text.specs.Utf8.{step_of}
 use Rattle.text.specs.Content.{Piece, Content, malformed, content, with_first, on_step, content_from, content_of}
 use Rattle.text.specs.Neat.{All, bytes_of}
@@ -16,7 +17,7 @@ use Rattle.text.proofs.Points.{point_good, own_bytes, unroll_list}
 
 -- a point that is well-formed: its bytes are read as it, whatever follows
 abbrev pub Sound : Piece → Type 0
-Sound p = (r : List ℕ) → step_of (p.bytes ++ r) ≡ Point p.code (length p.bytes)
+Sound p = (r : List ℕ) → step_of (p.bytes ++ r) ≡ point p.code (length p.bytes)
 
 -- the points one after another, from place o on
 abbrev pub placed : ℕ → List Piece → List Piece
@@ -56,20 +57,24 @@ told_first o l r p (content ps) s e f t =
       places = rw (← f) (ap (λ (qs : List Piece). p ∷ qs) (rw (← f) at t.places));
     }
 
-told_step : (o a : ℕ) (l : List ℕ) (x : Step) → x ≡ step_of (a ∷ l) → ((k : ℕ) → Told (suc o + k) (drop k l) (content_from (suc o) k l))
-    → Told o (a ∷ l) (on_step x (λ c n. with_first (record { at = o; code = c; bytes = take n (a ∷ l) }) (content_from (suc o) (n - 1) l)))
-told_step o a l Refused e ih = tt
-told_step o a l (Point c zero) e ih = absurd (let h = point_good (a ∷ l) c zero e in omega arith)
-told_step o a l (Point c (suc m)) e ih =
+told_point : (o a : ℕ) (l : List ℕ) (c n : ℕ) → point c n ≡ step_of (a ∷ l) → ((k : ℕ) → Told (suc o + k) (drop k l) (content_from (suc o) k l))
+    → Told o (a ∷ l) (with_first (record { at = o; code = c; bytes = take n (a ∷ l) }) (content_from (suc o) (n - 1) l))
+told_point o a l c zero e ih = absurd (let h = point_good (a ∷ l) c zero e in omega arith)
+told_point o a l c (suc m) e ih =
     let f : suc m - 1 ≡ m = omega arith in
     let g = point_good (a ∷ l) c (suc m) e in
     let n : length (take (suc m) (a ∷ l)) ≡ suc m = length-take-le (suc m) (a ∷ l) g.1 in
     let p : Piece = record { at = o; code = c; bytes = take (suc m) (a ∷ l) } in
     rw f
     (told_first o (a ∷ l) (drop m l) p (content_from (suc o) m l)
-    (λ r. own_bytes r (a ∷ l) c (suc m) e ∙ ap (Point c) (sym n))
+    (λ r. own_bytes r (a ∷ l) c (suc m) e ∙ ap (point c) (sym n))
     (ap (λ (x : List ℕ). a ∷ x) (take-append-drop m l)) refl
     (subst (λ (i : ℕ). Told i (drop m l) (content_from (suc o) m l)) (suc-add o m ∙ sym (add-suc o m) ∙ ap (λ (i : ℕ). o + i) (sym n)) (ih m)))
+
+told_step : (o a : ℕ) (l : List ℕ) (x : Option Point) → x ≡ step_of (a ∷ l) → ((k : ℕ) → Told (suc o + k) (drop k l) (content_from (suc o) k l))
+    → Told o (a ∷ l) (on_step x (λ c n. with_first (record { at = o; code = c; bytes = take n (a ∷ l) }) (content_from (suc o) (n - 1) l)))
+told_step o a l None e ih = tt
+told_step o a l (Some p) e ih = told_point o a l p.code p.len e ih
 
 told : (l : List ℕ) (o k : ℕ) → Told (o + k) (drop k l) (content_from o k l)
 unfolding content_from bytes_of

@@ -10,9 +10,10 @@ use lib.Seq.{length-take-le}
 use Rattle.ascii.specs.Pick.{pick}
 use Rattle.ascii.specs.Area.{put}
 use Rattle.ascii.proofs.Area.{put_sets, put_then}
-use Rattle.text.specs.declared.utf8.Step.TheVariants.{Point, Refused}
+use Rattle.std.specs.Prelude.{None, Ok}
+use Rattle.text.specs.Utf8.{point}
 use Rattle.text.specs.declared.area.Text.{Text}
-use Rattle.answer.specs.declared.reason.Reason.TheVariants.{NoReason, Long, Utf8}
+use Rattle.answer.specs.declared.reason.Reason.TheVariants.{Long, Utf8}
 use Rattle.text.specs.Utf8.{step_of}
 use Rattle.text.specs.Content.{Piece, Cell, Content, malformed, content, content_of, cells}
 use Rattle.text.specs.Answer.{padded, kept, refusal, on_content, answer}
@@ -65,15 +66,15 @@ module _ {f : List Piece → List Cell} {whole : Text} {s out : List ℕ} {n at 
       let e : length (texts i.done) ≤ 1024 = simp length-map (omega arith) in
       rw i.area (length_padded (texts i.done) e)
 
-  pub stop : at < length s → Refused ≡ step_of (drop at s) → refusal Utf8 ≡ whole
+  pub stop : at < length s → None ≡ step_of (drop at s) → refusal Utf8 ≡ whole
   stop h e = rw (at_refused s at h e) at i.left
 
-  pub finish : length s ≤ at → f [] ≡ [] → ◌≡◌ {A = Text} (record { reason = NoReason; len = n; bytes = out }) whole
+  pub finish : length s ≤ at → f [] ≡ [] → ◌≡◌ {A = Text} (record { kept = Ok n; bytes = out }) whole
   unfolding kept
   finish h e =
       rw (i.area, ← i.count) (ap kept (sym (append-nil i.done) ∙ ap (λ (l : List Cell). i.done ++ l) (sym e)) ∙ rw (at_last s at h) at i.left)
 
-  module _ (c k : ℕ) (e : Point c k ≡ step_of (drop at s)) where
+  module _ (c k : ℕ) (e : point c k ≡ step_of (drop at s)) where
     pub fits : (1 ≤ k) × (at + k ≤ length s)
     fits = point_fits s at i.place c k e
 

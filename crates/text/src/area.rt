@@ -5,11 +5,10 @@ ghost use Rattle.text.specs.Answer.{refusal, text_in};
 
 use answer::Reason;
 
-// A text in its working area: its length, its bytes, and zeros after them.
+// A text in its working area: its length, its bytes, and zeros after them; or why it is refused, and zeros alone.
 #[derive(Drop)]
 pub struct Text {
-    pub reason: Reason,
-    pub len: usize,
+    pub kept: Result<usize, Reason>,
     pub bytes: [u8; 1024],
 }
 
@@ -23,18 +22,11 @@ pub fn first_bytes(area: &[u8], n: usize) -> &[u8]
     area
 }
 
-// What stands in an area: the reason, and the length of its text.
-#[derive(Clone, Copy)]
-pub struct Kept {
-    pub reason: Reason,
-    pub len: usize,
-}
-
-pub(crate) fn refuse(reason: Reason, out: &mut [u8; 1024]) -> Kept
+pub(crate) fn refuse(reason: Reason, out: &mut [u8; 1024]) -> Result<usize, Reason>
     ensures { text_in result out.new ≡ refusal reason }
 {
     *out = [0u8; 1024];
-    Kept { reason, len: 0 }
+    Err(reason)
 }
 
 // The k bytes from `at` go to the area, from n on.

@@ -8,9 +8,9 @@ mod space;
 mod utf8;
 mod white;
 
-pub use area::{Kept, Text, first_bytes};
+pub use area::{Text, first_bytes};
 pub use read::readable;
 pub use reading::Reading;
 pub use space::{normalize_into, normalize_space, strip, strip_into};
-pub use utf8::{Step, decode};
+pub use utf8::{Point, decode};
 pub use white::is_white;

@@ -3,7 +3,7 @@ ghost use Rattle.std.specs.Prelude.{◌≡◌, leb};
 ghost use Rattle.ascii.specs.Class.{all};
 ghost use Rattle.text.specs.Answer.{readable_of};
 
-use super::utf8::{Step, next_point};
+use super::utf8::next_point;
 use answer::Reason;
 
 // Whether every byte is a code point by itself. Without a way out of its loop the compiler looks at several bytes at once.
@@ -19,22 +19,22 @@ fn is_ascii(s: &[u8]) -> bool
     ascii
 }
 
-// Why a content can't be read: it is over 1,024 bytes, or else not UTF-8.
-pub fn readable(s: &[u8]) -> Reason
+// Whether a content can be read, and why not: it is over 1,024 bytes, or else not UTF-8.
+pub fn readable(s: &[u8]) -> Result<(), Reason>
     ensures { result ≡ readable_of s.now }
 {
     if 1024 < s.len() {
-        return Reason::Long;
+        return Err(Reason::Long);
     }
     if is_ascii(s) {
-        return Reason::NoReason;
+        return Ok(());
     }
     let mut at: usize = 0;
     while at < s.len() {
-        let Step::Point(_, k) = next_point(s, at) else {
-            return Reason::Utf8;
+        let Some(point) = next_point(s, at) else {
+            return Err(Reason::Utf8);
         };
-        at += k;
+        at += point.len;
     }
-    Reason::NoReason
+    Ok(())
 }

@@ -3,13 +3,13 @@ ghost use Rattle.std.specs.Prelude.{◌≡◌, ◌&&◌, eqb, ltb};
 ghost use Rattle.ascii.specs.Class.{within};
 ghost use Rattle.text.specs.Answer.{stripped_text, normal_text, text_in};
 
-use super::area::{Kept, Text, copy, refuse};
-use super::utf8::{Step, next_point};
+use super::area::{Text, copy, refuse};
+use super::utf8::next_point;
 use super::white::{is_dark_byte, is_white};
 use answer::Reason;
 
 // The content without its white points, in the caller's area.
-pub fn strip_into(s: &[u8], out: &mut [u8; 1024]) -> Kept
+pub fn strip_into(s: &[u8], out: &mut [u8; 1024]) -> Result<usize, Reason>
     ensures { text_in result out.new ≡ stripped_text s.now }
 {
     if 1024 < s.len() {
@@ -25,23 +25,20 @@ pub fn strip_into(s: &[u8], out: &mut [u8; 1024]) -> Kept
             n = n + 1;
             at = at + 1;
         } else {
-            let Step::Point(c, k) = next_point(s, at) else {
+            let Some(point) = next_point(s, at) else {
                 return refuse(Reason::Utf8, out);
             };
-            let next = at + k;
-            if is_white(c) {
+            let next = at + point.len;
+            if is_white(point.code) {
                 at = next;
             } else {
-                copy(s, at, k, out, n);
-                n = n + k;
+                copy(s, at, point.len, out, n);
+                n = n + point.len;
                 at = next;
             }
         }
     }
-    Kept {
-        reason: Reason::NoReason,
-        len: n,
-    }
+    Ok(n)
 }
 
 // The same by value, which costs a copy.
@@ -49,13 +46,8 @@ pub fn strip(s: &[u8]) -> Text
     ensures { result ≡ stripped_text s.now }
 {
     let mut bytes = [0u8; 1024];
-    let k = strip_into(s, &mut bytes);
-    let reason = k.reason;
-    Text {
-        reason,
-        len: k.len,
-        bytes,
-    }
+    let kept = strip_into(s, &mut bytes);
+    Text { kept, bytes }
 }
 
 // Whether white stands between the last point that was kept, which ends at `end`, and `at`.
@@ -79,7 +71,7 @@ fn joins(end: usize, at: usize, b: u8) -> bool
 }
 
 // The content without white at its ends, and with one space for each run of white within, in the caller's area.
-pub fn normalize_into(s: &[u8], out: &mut [u8; 1024]) -> Kept
+pub fn normalize_into(s: &[u8], out: &mut [u8; 1024]) -> Result<usize, Reason>
     ensures { text_in result out.new ≡ normal_text s.now }
 {
     if 1024 < s.len() {
@@ -97,30 +89,27 @@ pub fn normalize_into(s: &[u8], out: &mut [u8; 1024]) -> Kept
             at = at + 1;
             end = at;
         } else {
-            let Step::Point(c, k) = next_point(s, at) else {
+            let Some(point) = next_point(s, at) else {
                 return refuse(Reason::Utf8, out);
             };
-            let next = at + k;
-            if is_white(c) {
+            let next = at + point.len;
+            if is_white(point.code) {
                 at = next;
             } else if parted(n, end, at) {
                 out[n] = 32;
-                copy(s, at, k, out, n + 1);
-                n = n + 1 + k;
+                copy(s, at, point.len, out, n + 1);
+                n = n + 1 + point.len;
                 end = next;
                 at = next;
             } else {
-                copy(s, at, k, out, n);
-                n = n + k;
+                copy(s, at, point.len, out, n);
+                n = n + point.len;
                 end = next;
                 at = next;
             }
         }
     }
-    Kept {
-        reason: Reason::NoReason,
-        len: n,
-    }
+    Ok(n)
 }
 
 // The same by value.
@@ -128,11 +117,6 @@ pub fn normalize_space(s: &[u8]) -> Text
     ensures { result ≡ normal_text s.now }
 {
     let mut bytes = [0u8; 1024];
-    let k = normalize_into(s, &mut bytes);
-    let reason = k.reason;
-    Text {
-        reason,
-        len: k.len,
-        bytes,
-    }
+    let kept = normalize_into(s, &mut bytes);
+    Text { kept, bytes }
 }

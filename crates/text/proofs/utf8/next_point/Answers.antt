@@ -2,11 +2,11 @@
 use mathlib.Core.Path.{sym, ◌∙◌, ap}
 use Prim.Native.Nat.{ℕ}
 use native.Mathlib.Omega.{arith}
-use Rattle.text.specs.declared.utf8.Step.TheVariants.{Point}
+use Rattle.text.specs.Utf8.{point}
 use Rattle.text.proofs.Rows.{at_byte, row_1}
 use Rattle.text.proofs.utf8.next_point.Goals as goal
 
 pub returns-then-a-le127 : goal.returns-then-a-le127
 returns-then-a-le127 c =
     let a = c.args in
-    ap (λ (x : ℕ). Point x 1) c.wide.ensures ∙ sym (at_byte a.s.now a.at (omega arith) ∙ row_1 _ _ (omega arith))
+    ap (λ (x : ℕ). point x 1) c.wide.ensures ∙ sym (at_byte a.s.now a.at (omega arith) ∙ row_1 _ _ (omega arith))
