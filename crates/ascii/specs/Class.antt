@@ -1,9 +1,9 @@
 -- The classes of a byte or a code point. ASCII alone counts.
-use Rattle.std.specs.Prelude.{Bool, true, false, ◌&&◌, ◌||◌, List, [], ◌∷◌, ℕ, leb, eqb}
+use Rattle.std.specs.Prelude.{Bool, true, false, ◌&&◌, ◌||◌, List, [], ◌∷◌, ℕ, ◌==◌, nat_le}
 use Prim.Native.Char.{code}
 
 unfoldable pub within : ℕ → ℕ → ℕ → Bool
-within low high c = leb low c && leb c high
+within low high c = nat_le low c && nat_le c high
 
 unfoldable pub is_digit : ℕ → Bool
 is_digit c = within (code "0") (code "9") c
@@ -23,4 +23,4 @@ all p (c ∷ l) = p c && all p l
 -- one of a list
 unfoldable pub among : ℕ → List ℕ → Bool
 among c [] = false
-among c (d ∷ l) = eqb d c || among c l
+among c (d ∷ l) = (d == c) || among c l

@@ -9,7 +9,7 @@ ghost use Rattle.ascii.specs.Written.{same_bytes};
 pub fn wide(b: u8) -> u32
     ensures { result ≡ b }
 {
-    b as u32
+    u32::from(b)
 }
 
 pub fn is_digit(c: u32) -> bool
@@ -36,10 +36,8 @@ pub fn among(c: u32, list: &[u32]) -> bool
     ensures { result ≡ among c list.now }
 {
     let mut found = false;
-    let mut i: usize = 0;
-    while i < list.len() {
-        found = found | (list[i] == c);
-        i += 1;
+    for d in list {
+        found |= *d == c;
     }
     found
 }
@@ -48,15 +46,5 @@ pub fn among(c: u32, list: &[u32]) -> bool
 pub fn same_bytes(a: &[u8], b: &[u8]) -> bool
     ensures { result ≡ same_bytes a.now b.now }
 {
-    if a.len() != b.len() {
-        return false;
-    }
-    let mut i = 0;
-    while i < a.len() {
-        if a[i] != b[i] {
-            return false;
-        }
-        i += 1;
-    }
-    true
+    a == b
 }
