@@ -16,18 +16,17 @@ use Rattle.ascii.specs.Pick.{pick}
 use Rattle.ascii.specs.Class.{is_digit, all}
 use Rattle.ascii.proofs.Tests.{below, below_at}
 use Rattle.ascii.proofs.Class.{digit_bounds, all_first, all_rest}
-use Rattle.forms.specs.Form.{Form, fault_of, is_fit}
+use Rattle.std.specs.Prelude.{Result, Ok, Err, is_ok, ⊤}
+use Rattle.forms.specs.Form.{Form, fault_of}
 use Rattle.forms.proofs.Laws.{fault_long}
 use Rattle.forms.specs.declared.form.Fault.{Fault}
-use Rattle.forms.specs.declared.form.Fault.TheVariants.{Fits, Length, At}
+use Rattle.forms.specs.declared.form.Fault.TheVariants.{Length}
 use Rattle.figures.specs.Total.{total}
 use Rattle.figures.specs.Figures.{weight_at, counted, adds, total_by}
 use Rattle.figures.specs.Completing.{one_digit}
 use Rattle.figures.specs.Inner.{figure_by, placed, adds_from, summed, summed_by}
 use Rattle.figures.specs.declared.kind.Kind.{Kind}
 use Rattle.figures.specs.declared.kind.Kind.TheVariants.{Mod10, Mod11, Mod97, Luhn, Mod89}
-use Rattle.figures.specs.declared.kind.Sum.{Sum}
-use Rattle.figures.specs.declared.kind.Sum.TheVariants.{Of, Unfit}
 use Rattle.figures.proofs.Digits.{same_total}
 use Rattle.figures.proofs.Links.{join}
 
@@ -145,29 +144,28 @@ adds_zero fold ws k = omega (arith, counted_small fold (weight_at ws k * 0))
 
 -- ---- the form, and then the total
 
-pub sum_fit : {y : Fault} {t n : ℕ} → y ≡ Fits → t ≡ n → Of t ≡ summed y n
+pub sum_fit : {y : Result ⊤ Fault} {t n : ℕ} → y ≡ Ok tt → t ≡ n → Ok t ≡ summed y n
 sum_fit h e = rw (h, e) refl
 
 -- by a fault that is found in another way
-pub sum_by : {x y : Fault} {r : Sum} (n : ℕ) → r ≡ summed x n → x ≡ y → r ≡ summed y n
+pub sum_by : {x y : Result ⊤ Fault} {r : Result ℕ Fault} (n : ℕ) → r ≡ summed x n → x ≡ y → r ≡ summed y n
 sum_by n e h = rw (← h) e
 
-pub sum_same : (y : Fault) {n m : ℕ} → (y ≡ Fits → n ≡ m) → summed y n ≡ summed y m
-sum_same Fits h = ap Of (h refl)
-sum_same Length h = refl
-sum_same (At k) h = refl
+pub sum_same : (y : Result ⊤ Fault) {n m : ℕ} → (y ≡ Ok tt → n ≡ m) → summed y n ≡ summed y m
+sum_same (Ok tt) h = ap (λ (k : ℕ). Ok k) (h refl)
+sum_same (Err fault) h = refl
 
 -- a length that is out of range, whatever the places are
-pub sum_out : (fold : Bool) (places : List ℕ) (f : Form) (after : ℕ) (s : List ℕ) → fault_of f s ≡ Length → Unfit Length ≡ summed_by fold places f after s
+pub sum_out : (fold : Bool) (places : List ℕ) (f : Form) (after : ℕ) (s : List ℕ) → fault_of f s ≡ Err Length → Err Length ≡ summed_by fold places f after s
 unfolding summed_by pick
 sum_out fold places f after s h = rw h (go (leb (length s + after) (length places)))
   where
-    go : (t : Bool) → Unfit Length ≡ pick t (Unfit Length) (Unfit Length)
+    go : (t : Bool) → ◌≡◌ {A = Result ℕ Fault} (Err Length) (pick t (Err Length) (Err Length))
     go true = refl
     go false = refl
 
 -- more digits than places
-pub sum_over : (fold : Bool) (places : List ℕ) (f : Form) (after : ℕ) (s : List ℕ) → length places < length s + after → Unfit Length ≡ summed_by fold places f after s
+pub sum_over : (fold : Bool) (places : List ℕ) (f : Form) (after : ℕ) (s : List ℕ) → length places < length s + after → Err Length ≡ summed_by fold places f after s
 unfolding summed_by pick
 sum_over fold places f after s h = rw (lt-leb (length s + after) (length places) h)
 
@@ -183,15 +181,13 @@ sum_formed fold places f after s h = go (leb (length s + after) (length places))
     go true e = sum_room fold places f after s (leb-true _ _ e)
     go false e =
         let l = leb-false (length s + after) (length places) e in
-        sym (sum_over fold places f after s l) ∙ sum_by {x = Length} _ refl (sym (fault_long f s (omega arith)))
+        sym (sum_over fold places f after s l) ∙ sum_by {x = Err Length} _ refl (sym (fault_long f s (omega arith)))
 
 -- what a caller learns of a sum
-pub sum_means : (y : Fault) (n : ℕ) {t : ℕ} → summed y n ≡ Of t → (y ≡ Fits) × (n ≡ t)
-sum_means Fits n e = (refl, cc)
-sum_means Length n e = absurd (let q : ◌≡◌ {A = ℕ} 0 1 = cc in omega arith)
-sum_means (At k) n e = absurd (let q : ◌≡◌ {A = ℕ} 0 1 = cc in omega arith)
+pub sum_means : (y : Result ⊤ Fault) (n : ℕ) {t : ℕ} → summed y n ≡ Ok t → (y ≡ Ok tt) × (n ≡ t)
+sum_means (Ok tt) n e = (refl, cc)
+sum_means (Err fault) n e = absurd (let q : ◌≡◌ {A = ℕ} 0 1 = cc in omega arith)
 
-pub unfit_means : (y : Fault) (n : ℕ) {f : Fault} → summed y n ≡ Unfit f → is_fit y ≡ false
-unfit_means Fits n e = absurd (let q : ◌≡◌ {A = ℕ} 0 1 = cc in omega arith)
-unfit_means Length n e = refl
-unfit_means (At k) n e = refl
+pub unfit_means : (y : Result ⊤ Fault) (n : ℕ) {f : Fault} → summed y n ≡ Err f → is_ok y ≡ false
+unfit_means (Ok tt) n e = absurd (let q : ◌≡◌ {A = ℕ} 0 1 = cc in omega arith)
+unfit_means (Err fault) n e = refl

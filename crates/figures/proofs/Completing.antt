@@ -12,20 +12,20 @@ use lib.Dec.{eqb}
 use lib.IntN.{nat_abs, sub_ℕ}
 use lib.ListN.{length, length-append, take, drop}
 use lib.Seq.{take_at, drop_at}
+use Rattle.std.specs.Prelude.{Some, None}
 use Rattle.ascii.specs.Pick.{pick}
 use Rattle.ascii.specs.Class.{is_digit, all}
 use Rattle.ascii.proofs.Tests.{false_true, not_true, eqb_iff, same, same_eq, below, below_at}
 use Rattle.ascii.proofs.Class.{digit_bounds, digit_inside, all_first, all_rest, all_cons, all_nil, all_append}
-use Rattle.answer.specs.declared.reason.Reason.TheVariants.{NoReason, Zero, NoFigure}
+use Rattle.answer.specs.declared.reason.Reason.TheVariants.{Zero, NoFigure}
 use Rattle.forms.specs.Form.{fault_of}
 use Rattle.forms.specs.Table.{digits}
 use Rattle.forms.proofs.OfDigits.{Digits, fit_digits}
 use Rattle.figures.specs.Total.{total, number}
 use Rattle.figures.specs.Figures.{Figure, adds, total_by, right, figure40, figure41, luhn, figure50}
-use Rattle.figures.specs.Findings.{is_good}
+use Rattle.figures.specs.Findings.{Finding, is_good}
 use Rattle.figures.specs.Rules.{gln, mod11, mod97, se_orgnr, abn, abn_total, all_zero}
 use Rattle.figures.specs.Completing.{one_digit, two_digits, lacks, check_figure, mod11_reason, Completes}
-use Rattle.figures.specs.declared.finding.Finding.{Finding}
 use Rattle.figures.specs.declared.kind.Kind.TheVariants.{Mod10, Mod11, Mod97, Luhn, Mod89}
 use Rattle.figures.proofs.Digits.{all_end, all_front}
 use Rattle.figures.proofs.Zeros.{zeros41}
@@ -159,33 +159,33 @@ module _ (body : List ℕ) (h : all is_digit body ≡ true) (n : length body ≡
       let a : all_zero (body ++ one_digit c) ≡ true = all_both (eqb 48) body (one_digit c) ∙ rw (z, c0) refl in
       false_true (sym p.1 ∙ a))
 
-  reason_none : (z t : Bool) → pick z Zero (pick t NoFigure NoReason) ≡ NoReason → (z ≡ false) × (t ≡ false)
+  reason_none : (z t : Bool) → pick z (Some Zero) (pick t (Some NoFigure) None) ≡ None → (z ≡ false) × (t ≡ false)
   unfolding pick
   reason_none true t e = absurd (let q : ◌≡◌ {A = ℕ} 0 1 = cc in omega arith)
   reason_none false true e = absurd (let q : ◌≡◌ {A = ℕ} 0 1 = cc in omega arith)
   reason_none false false e = (refl, refl)
 
-  pub mod11_completes : mod11_reason body ≡ NoReason → Completes (good mod11) (λ y. body ++ y) 0 (one_digit (check_figure Mod11 body))
+  pub mod11_completes : mod11_reason body ≡ None → Completes (good mod11) (λ y. body ++ y) 0 (one_digit (check_figure Mod11 body))
   mod11_completes e =
       let r = reason_none (all_zero body) (eqb (lacks figure41 body) 10) e in
       one_completes mod11 figure41 0 9 9 mod11_links body (lacks figure41 body) (omega (arith, eqb-false (lacks figure41 body) 10 r.1))
       (λ c l. good41 c l false r.0)
 
   -- reasons 5 and 6 stand exactly when no figure completes the body
-  pub mod11_none : (mod11_reason body ≡ NoReason → ⊥) ↔ ((y : List ℕ) → length y ≡ 1 → is_good (mod11 (body ++ y)) ≡ false)
+  pub mod11_none : (mod11_reason body ≡ None → ⊥) ↔ ((y : List ℕ) → length y ≡ 1 → is_good (mod11 (body ++ y)) ≡ false)
   unfolding pick
   mod11_none = (
     λ ne y k. not_true (is_good (mod11 (body ++ y))) (λ g. ne (some y k g)),
     λ none e. false_true (sym (none (one_digit (lacks figure41 body)) refl) ∙ (mod11_completes e).accepted),
   )
     where
-      by_digit : (c : ℕ) → c < 10 → (z : Bool) → all_zero body ≡ z → is_good (mod11 (body ++ one_digit c)) ≡ true → mod11_reason body ≡ NoReason
+      by_digit : (c : ℕ) → c < 10 → (z : Bool) → all_zero body ≡ z → is_good (mod11 (body ++ one_digit c)) ≡ true → mod11_reason body ≡ None
       by_digit c l true z g = false_true (sym (good41 c l true z) ∙ g)
       by_digit c l false z g =
           let e = eqb-true c (lacks figure41 body) (sym (good41 c l false z) ∙ g) in
           rw (z, ne_eqb (lacks figure41 body) 10 (λ q. omega arith)) refl
 
-      some : (y : List ℕ) → length y ≡ 1 → is_good (mod11 (body ++ y)) ≡ true → mod11_reason body ≡ NoReason
+      some : (y : List ℕ) → length y ≡ 1 → is_good (mod11 (body ++ y)) ≡ true → mod11_reason body ≡ None
       some [] k g = absurd (omega arith)
       some (d ∷ e ∷ y) k g = absurd (omega arith)
       some (d ∷ []) k g =

@@ -18,10 +18,9 @@ use Rattle.forms.specs.Table.{digits}
 use Rattle.forms.proofs.OfDigits.{Digits, fit_digits}
 use Rattle.figures.specs.Total.{digit_at}
 use Rattle.figures.specs.Figures.{Figure, adds, total_by, figure40, figure41, luhn, figure50}
-use Rattle.figures.specs.Findings.{is_good, judged}
+use Rattle.figures.specs.Findings.{Finding, is_good, judged}
 use Rattle.figures.specs.Rules.{gln, mod11, mod97, se_orgnr, abn}
 use Rattle.figures.specs.Changes.{exchanged, RefusesReplaced, AcceptsExchanged, never, by_five, zero_and_nine}
-use Rattle.figures.specs.declared.finding.Finding.{Finding}
 use Rattle.figures.proofs.Digits.{all_set}
 use Rattle.figures.proofs.Judging.{good_by}
 use Rattle.figures.proofs.Shift.{cancel, total_set, total_exchanged}

@@ -14,9 +14,8 @@ use Rattle.forms.specs.Table.{digits}
 use Rattle.forms.proofs.OfDigits.{Digits, digits_fit}
 use Rattle.figures.specs.Total.{total, number}
 use Rattle.figures.specs.Figures.{Figure, adds, weight_at, total_by, right, figure, figure40, figure41, luhn, figure50}
-use Rattle.figures.specs.Findings.{is_good}
+use Rattle.figures.specs.Findings.{Finding, is_good}
 use Rattle.figures.specs.Rules.{gln, mod11, mod97, se_orgnr, abn, abn_total, all_zero}
-use Rattle.figures.specs.declared.finding.Finding.{Finding}
 use Rattle.figures.proofs.Digits.{same_total}
 use Rattle.figures.proofs.Judging.{good_parts, good_zero}
 

@@ -1,8 +1,8 @@
 -- The figure that completes a body: a check digit or a check pair.
-use Rattle.std.specs.Prelude.{◌≡◌, Bool, true, List, [], ◌∷◌, ◌++◌, ℕ, ◌+◌, ◌-◌, ◌/◌, ◌%◌, ◌≤◌, eqb, length}
+use Rattle.std.specs.Prelude.{◌≡◌, Bool, true, Option, Some, None, List, [], ◌∷◌, ◌++◌, ℕ, ◌+◌, ◌-◌, ◌/◌, ◌%◌, ◌≤◌, ◌==◌, length}
 use Rattle.ascii.specs.Pick.{pick}
 use Rattle.answer.specs.declared.reason.Reason.{Reason}
-use Rattle.answer.specs.declared.reason.Reason.TheVariants.{NoReason, Zero, NoFigure}
+use Rattle.answer.specs.declared.reason.Reason.TheVariants.{Zero, NoFigure}
 use Rattle.figures.specs.Total.{number}
 use Rattle.figures.specs.Figures.{Figure, total_by, figure40, figure41, belgian_pair, luhn, figure50}
 use Rattle.figures.specs.Rules.{all_zero}
@@ -37,8 +37,8 @@ check_figure Luhn body = lacks luhn body
 check_figure Mod89 body = abn_pair (total_by figure50 body)
 
 -- why a body of 0192 has none: ZERO for eight zeros, NO_FIGURE where the check would be 10
-abbrev pub mod11_reason : List ℕ → Reason
-mod11_reason body = pick (all_zero body) Zero (pick (eqb (check_figure Mod11 body) 10) NoFigure NoReason)
+abbrev pub mod11_reason : List ℕ → Option Reason
+mod11_reason body = pick (all_zero body) (Some Zero) (pick (check_figure Mod11 body == 10) (Some NoFigure) None)
 
 -- `number_with` makes a number of the body and a figure: with x it is accepted, and with no other text of x's length that writes `least` or more
 pub record Completes (accepts : List ℕ → Bool) (number_with : List ℕ → List ℕ) (least : ℕ) (x : List ℕ) : Type 0 where

@@ -1,17 +1,15 @@
 -- What the code finds its answers from. No rule cites this; that it says what the rules say is proved.
-use Rattle.std.specs.Prelude.{Bool, false, not, ◌&&◌, List, [], ◌∷◌, ◌++◌, ℕ, zero, suc, ◌+◌, ◌*◌, ◌/◌, ◌%◌, eqb, leb, length, get_or}
+use Rattle.std.specs.Prelude.{Bool, false, not, ◌&&◌, Result, Ok, Err, ⊤, List, [], ◌∷◌, ◌++◌, ℕ, zero, suc, ◌+◌, ◌*◌, ◌/◌, ◌%◌, eqb, leb, length, get_or}
 use Prim.Native.Char.{code}
 use Rattle.ascii.specs.Pick.{pick}
 use Rattle.forms.specs.Form.{Form, class_at, wrong, fault_of}
 use Rattle.forms.specs.declared.form.Fault.{Fault}
-use Rattle.forms.specs.declared.form.Fault.TheVariants.{Fits, Length, At}
+use Rattle.forms.specs.declared.form.Fault.TheVariants.{Length}
 use Rattle.figures.specs.Total.{total}
 use Rattle.figures.specs.Figures.{Figure, weight_at, counted, figure, figure40, figure41, belgian_pair, luhn, figure50}
 use Rattle.figures.specs.Completing.{complement, abn_pair}
 use Rattle.figures.specs.declared.kind.Kind.{Kind}
 use Rattle.figures.specs.declared.kind.Kind.TheVariants.{Mod10, Mod11, Mod97, Luhn, Mod89}
-use Rattle.figures.specs.declared.kind.Sum.{Sum}
-use Rattle.figures.specs.declared.kind.Sum.TheVariants.{Of, Unfit}
 
 -- the powers of ten
 abbrev pub powers : List ℕ
@@ -59,18 +57,17 @@ lacking Mod89 t = abn_pair t
 abbrev pub adds_from : ℕ → Bool → List ℕ → ℕ → ℕ → ℕ
 adds_from after fold places k d = counted fold (get_or places (k + after) 0 * d)
 
--- the first place that has no digit; Fits where each has one
-abbrev pub no_digit : List ℕ → Fault
+-- the first place that has no digit; Ok where each has one
+abbrev pub no_digit : List ℕ → Result ⊤ Fault
 no_digit s = wrong (class_at [] (code "#")) 0 s
 
 -- a total, where nothing is wrong with the form
-abbrev pub summed : Fault → ℕ → Sum
-summed Fits t = Of t
-summed Length t = Unfit Length
-summed (At k) t = Unfit (At k)
+abbrev pub summed : Result ⊤ Fault → ℕ → Result ℕ Fault
+summed (Ok fit) t = Ok t
+summed (Err fault) t = Err fault
 
 -- the form of a number and then its total, by the weights of the places and with `after` digits still to come; LENGTH too where these are
 -- more digits than places
-unfoldable pub summed_by : Bool → List ℕ → Form → ℕ → List ℕ → Sum
+unfoldable pub summed_by : Bool → List ℕ → Form → ℕ → List ℕ → Result ℕ Fault
 summed_by fold places form after s =
-    pick (leb (length s + after) (length places)) (summed (fault_of form s) (total (adds_from after fold places) s)) (Unfit Length)
+    pick (leb (length s + after) (length places)) (summed (fault_of form s) (total (adds_from after fold places) s)) (Err Length)

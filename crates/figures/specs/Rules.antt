@@ -6,8 +6,7 @@ use Rattle.forms.specs.Form.{fault_of}
 use Rattle.forms.specs.Table.{some_digits, norwegian, belgian, italian_of, swedish, australian}
 use Rattle.figures.specs.Total.{digit_at, number}
 use Rattle.figures.specs.Figures.{total_by, right, figure40, figure41, belgian_pair, luhn, figure50}
-use Rattle.figures.specs.Findings.{judged, judged_zero}
-use Rattle.figures.specs.declared.finding.Finding.{Finding}
+use Rattle.figures.specs.Findings.{Finding, judged, judged_zero}
 
 -- 40 0088: one or more digits
 unfoldable pub gln : List ℕ → Finding

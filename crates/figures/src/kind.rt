@@ -10,20 +10,13 @@ use ascii::{is_digit, wide};
 use forms::Fault;
 
 // 0088, 0192, 0208, 0007, 0151.
-#[derive(Clone, Copy)]
+#[derive(Clone, Copy, PartialEq, Eq, Debug)]
 pub enum Kind {
     Mod10,
     Mod11,
     Mod97,
     Luhn,
     Mod89,
-}
-
-// The total of digits, or what is wrong with their form.
-#[derive(Clone, Copy)]
-pub enum Sum {
-    Of(u64),
-    Unfit(Fault),
 }
 
 // Weights from the right. Those of 0088 and of Luhn alternate.
@@ -117,7 +110,7 @@ pub fn share(kind: Kind, w: u32, d: u8) -> u64
 }
 
 // The total of digits, with `after` more to come; or the first place that has no digit.
-fn added(kind: Kind, weights: &[u32], s: &[u8], after: usize) -> Sum
+fn added(kind: Kind, weights: &[u32], s: &[u8], after: usize) -> Result<u64, Fault>
     requires enough { length s.now + after ≤ length weights.now }
     requires few { length s.now ≤ 255 }
     ensures { result ≡ summed (no_digit s.now) (total (adds_from after (figure_by kind).fold weights.now) s.now) }
@@ -132,27 +125,34 @@ fn added(kind: Kind, weights: &[u32], s: &[u8], after: usize) -> Sum
             sum += share(kind, weights[k], b - 48);
             i += 1;
         } else {
-            return Sum::Unfit(Fault::At(i));
+            return Err(Fault::At(i));
         }
     }
-    Sum::Of(sum)
+    Ok(sum)
 }
 
 // The total of least to most digits by the weights of their places; where a check digit is still to come, the last place is for it. More digits
 // than places are too long.
-pub fn sum_of(kind: Kind, weights: &[u32], s: &[u8], least: u8, most: u8, pending: bool) -> Sum
+pub fn sum_of(
+    kind: Kind,
+    weights: &[u32],
+    s: &[u8],
+    least: u8,
+    most: u8,
+    pending: bool,
+) -> Result<u64, Fault>
     ensures { result ≡ summed_by (figure_by kind).fold weights.now (digits least most) (bool_byte pending) s.now }
 {
     let n = s.len();
     let after = pending as usize;
     if n < (least as usize) {
-        return Sum::Unfit(Fault::Length);
+        return Err(Fault::Length);
     }
     if (most as usize) < n {
-        return Sum::Unfit(Fault::Length);
+        return Err(Fault::Length);
     }
     if weights.len() < n + after {
-        return Sum::Unfit(Fault::Length);
+        return Err(Fault::Length);
     }
     added(kind, weights, s, after)
 }

@@ -6,6 +6,6 @@ mod kind;
 mod rules;
 mod total;
 
-pub use finding::{Finding, decided, form_only, reason};
-pub use kind::{Kind, Sum, lacking, passes, share, sum_of, weights_of};
+pub use finding::{Finding, Passed, Problem, decided, form_only};
+pub use kind::{Kind, lacking, passes, share, sum_of, weights_of};
 pub use rules::{abn, gln, mod11, mod97_0208, partita_iva, se_orgnr};

@@ -2,22 +2,19 @@
 ghost use Rattle.std.specs.Prelude.{◌≡◌};
 ghost use Rattle.figures.specs.Rules.{gln, mod11, mod97, partita_iva, se_orgnr, abn};
 
-use super::finding::{Finding, decided};
+use super::finding::{Finding, Problem, decided};
 use super::kind::{
     ABN_MODULUS, ELEVEN, GLN_BEFORE, LAST, LUHN_BEFORE, MOD11, MOD97, TEN, belgian_pair,
 };
 use super::total::{abn_total, alternating, weighted};
-use forms::{AUSTRALIAN, BELGIAN, NORWEGIAN, SWEDISH, all_digits, is_fit, italian, n_digits};
+use forms::{AUSTRALIAN, BELGIAN, NORWEGIAN, SWEDISH, all_digits, italian, n_digits};
 
 // Rule 40 for any number of digits.
 fn gln_of(s: &[u8]) -> Finding
     ensures { result ≡ gln s.now }
 {
-    let fault = all_digits(s);
-    if is_fit(fault) {
-        return decided((alternating(s, LAST, GLN_BEFORE, false) as u64) % TEN == 0);
-    }
-    Finding::Unfit(fault)
+    all_digits(s)?;
+    decided((alternating(s, LAST, GLN_BEFORE, false) as u64) % TEN == 0)
 }
 
 // A GLN has 13 digits. These go by themselves, so that both loops have a length that the compiler knows.
@@ -33,58 +30,43 @@ pub fn gln(s: &[u8]) -> Finding
 pub fn mod11(s: &[u8]) -> Finding
     ensures { result ≡ mod11 s.now }
 {
-    let fault = n_digits(s, NORWEGIAN);
-    if is_fit(fault) {
-        let weights = MOD11;
-        let sum = weighted(s, &weights);
-        if sum == 0 {
-            return Finding::Zero;
-        }
-        return decided((sum as u64) % ELEVEN == 0);
+    n_digits(s, NORWEGIAN)?;
+    let weights = MOD11;
+    let sum = weighted(s, &weights);
+    if sum == 0 {
+        return Err(Problem::Zero);
     }
-    Finding::Unfit(fault)
+    decided((sum as u64) % ELEVEN == 0)
 }
 
 pub fn mod97_0208(s: &[u8]) -> Finding
     ensures { result ≡ mod97 s.now }
 {
-    let fault = n_digits(s, BELGIAN);
-    if is_fit(fault) {
-        let powers = MOD97;
-        let body = weighted(&s[0..8], &powers);
-        let check = weighted(&s[8..10], &powers);
-        return decided(check as u64 == belgian_pair(body as u64));
-    }
-    Finding::Unfit(fault)
+    n_digits(s, BELGIAN)?;
+    let powers = MOD97;
+    let body = weighted(&s[0..8], &powers);
+    let check = weighted(&s[8..10], &powers);
+    decided(check as u64 == belgian_pair(body as u64))
 }
 
 // The text with IT or it in front.
 pub fn partita_iva(s: &[u8]) -> Finding
     ensures { result ≡ partita_iva s.now }
 {
-    let fault = italian(s);
-    if is_fit(fault) {
-        return decided((alternating(&s[2..13], LAST, LUHN_BEFORE, true) as u64) % TEN == 0);
-    }
-    Finding::Unfit(fault)
+    italian(s)?;
+    decided((alternating(&s[2..13], LAST, LUHN_BEFORE, true) as u64) % TEN == 0)
 }
 
 pub fn se_orgnr(s: &[u8]) -> Finding
     ensures { result ≡ se_orgnr s.now }
 {
-    let fault = n_digits(s, SWEDISH);
-    if is_fit(fault) {
-        return decided((alternating(s, LAST, LUHN_BEFORE, true) as u64) % TEN == 0);
-    }
-    Finding::Unfit(fault)
+    n_digits(s, SWEDISH)?;
+    decided((alternating(s, LAST, LUHN_BEFORE, true) as u64) % TEN == 0)
 }
 
 pub fn abn(s: &[u8]) -> Finding
     ensures { result ≡ abn s.now }
 {
-    let fault = n_digits(s, AUSTRALIAN);
-    if is_fit(fault) {
-        return decided(abn_total(s) % (ABN_MODULUS as i64) == 0);
-    }
-    Finding::Unfit(fault)
+    n_digits(s, AUSTRALIAN)?;
+    decided(abn_total(s) % (ABN_MODULUS as i64) == 0)
 }

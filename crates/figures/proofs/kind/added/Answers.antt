@@ -8,6 +8,7 @@ use lib.ListN.{length, get_or}
 use Rattle.ascii.specs.Class.{is_digit}
 use Rattle.ascii.proofs.Class.{digit_bounds}
 use Rattle.forms.specs.Form.{class_at}
+use Rattle.std.specs.Prelude.{Err}
 use Rattle.forms.specs.declared.form.Fault.TheVariants.{At}
 use Rattle.forms.proofs.Laws.{class_digit, wrong_more, wrong_here, wrong_end}
 use Rattle.figures.specs.Inner.{figure_by, adds_from}
@@ -63,7 +64,7 @@ pub returns-else-is_digit : goal.returns-else-is_digit
 returns-else-is_digit c =
     let l = c.loop-i in
     let s = c.args.s.now in
-    sum_by {x = At l.i} _ refl
+    sum_by {x = Err (At l.i)} _ refl
     (sym
     (l.invariant.3
     ∙ wrong_here class s l.i (omega arith)

@@ -1,25 +1,22 @@
 -- `figures::rules::gln_of` meets its contract. Assumes nothing.
 use Prim.Native.Nat.{◌%◌}
-use mathlib.Core.Path.{ap}
-use native.Mathlib.Omega.{arith}
+use mathlib.Core.Path.{sym, ap}
 use lib.Dec.{eqb}
 use Rattle.forms.proofs.OfDigits.{digits_fit}
 use Rattle.figures.specs.Rules.{gln}
-use Rattle.figures.proofs.Judging.{fitted, unfitted, met}
+use Rattle.figures.proofs.Judging.{unmet, met}
 use Rattle.figures.proofs.rules.gln_of.Goals as goal
 
-pub alternating-requires : goal.alternating-requires
-alternating-requires c =
-    let s = c.args.s.now in
-    let d = digits_fit 1 1024 s (fitted _ c.is_fit.ensures c.all_digits-fault.ensures c.if-is_fit.true) in
-    record { digits = d.digit; few = d.most; last_small = omega arith; before_small = omega arith }
-
-pub returns-then-is_fit : goal.returns-then-is_fit
+pub returns-in_err-all_digits : goal.returns-in_err-all_digits
 unfolding gln
-returns-then-is_fit c =
-    met _ (fitted _ c.is_fit.ensures c.all_digits-fault.ensures c.if-is_fit.true)
-    (ap (λ t. eqb (t % 10) 0) c.alternating.ensures) c.decided.ensures
+returns-in_err-all_digits c = unmet c.from_residual.ensures c.in_err-all_digits.ensures _
+
+pub alternating-requires-clause-digits : goal.alternating-requires-clause-digits
+alternating-requires-clause-digits c = (digits_fit 1 1024 c.args.s.now (sym c.in_ok-all_digits.ensures)).digit
+
+pub alternating-requires-clause-few : goal.alternating-requires-clause-few
+alternating-requires-clause-few c = (digits_fit 1 1024 c.args.s.now (sym c.in_ok-all_digits.ensures)).most
 
 pub returns : goal.returns
 unfolding gln
-returns c = unfitted _ c.is_fit.ensures c.all_digits-fault.ensures _ c.if-is_fit.false
+returns c = met _ c.in_ok-all_digits.ensures (ap (λ t. eqb (t % 10) 0) c.alternating.ensures) c.decided.ensures

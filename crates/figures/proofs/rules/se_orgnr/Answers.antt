@@ -1,25 +1,23 @@
 -- `figures::rules::se_orgnr` meets its contract. Assumes nothing.
 use Prim.Native.Nat.{◌%◌}
-use mathlib.Core.Path.{ap}
+use mathlib.Core.Path.{sym, ap}
 use native.Mathlib.Omega.{arith}
 use lib.Dec.{eqb}
 use Rattle.forms.proofs.OfDigits.{digits_fit}
 use Rattle.figures.specs.Rules.{se_orgnr}
-use Rattle.figures.proofs.Judging.{fitted, unfitted, met}
+use Rattle.figures.proofs.Judging.{unmet, met}
 use Rattle.figures.proofs.rules.se_orgnr.Goals as goal
 
-pub alternating-requires : goal.alternating-requires
-alternating-requires c =
-    let s = c.args.s.now in
-    let d = digits_fit 10 10 s (fitted _ c.is_fit.ensures c.n_digits-fault.ensures c.if-is_fit.true) in
-    record { digits = d.digit; few = omega arith; last_small = omega arith; before_small = omega arith }
-
-pub returns-then-is_fit : goal.returns-then-is_fit
+pub returns-in_err-n_digits : goal.returns-in_err-n_digits
 unfolding se_orgnr
-returns-then-is_fit c =
-    met _ (fitted _ c.is_fit.ensures c.n_digits-fault.ensures c.if-is_fit.true)
-    (ap (λ t. eqb (t % 10) 0) c.alternating.ensures) c.decided.ensures
+returns-in_err-n_digits c = unmet c.from_residual.ensures c.in_err-n_digits.ensures _
+
+pub alternating-requires-clause-digits : goal.alternating-requires-clause-digits
+alternating-requires-clause-digits c = (digits_fit 10 10 c.args.s.now (sym c.in_ok-n_digits.ensures)).digit
+
+pub alternating-requires-clause-few : goal.alternating-requires-clause-few
+alternating-requires-clause-few c = omega (arith, digits_fit 10 10 c.args.s.now (sym c.in_ok-n_digits.ensures))
 
 pub returns : goal.returns
 unfolding se_orgnr
-returns c = unfitted _ c.is_fit.ensures c.n_digits-fault.ensures _ c.if-is_fit.false
+returns c = met _ c.in_ok-n_digits.ensures (ap (λ t. eqb (t % 10) 0) c.alternating.ensures) c.decided.ensures
