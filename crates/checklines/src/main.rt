@@ -1,21 +1,13 @@
 // Answers each line of standard input by a line on standard output, and then says how many of them each rule accepted, refused and let through.
 #![tactic(auto)]
 
-ghost use Rattle.std.specs.Prelude.{◌<◌, ◌≤◌, length};
+ghost use Rattle.std.specs.Prelude.{◌<◌, ◌≤◌, length, IfOk, IfSome};
 ghost use Rattle.lines.specs.Line.{line_bytes};
 ghost use Rattle.stream.specs.Turn.{closing_room};
 
 use std::io::{ErrorKind, Read, Write};
 use std::process::ExitCode;
 use std::{io, str};
-
-// Whether to go on, how much of the window is kept, and the status to end with.
-#[derive(Clone, Copy)]
-struct Next {
-    go: bool,
-    kept: usize,
-    status: ExitCode,
-}
 
 // Says on standard error what can't be done, and why: the system's words for it, without their number.
 fn fail(rt: &impl Eprint, what: &str, why: io::Error) -> ExitCode {
@@ -44,7 +36,8 @@ fn write(rt: &(impl Print + Eprint), text: &[u8]) -> Result<(), ExitCode> {
     }
 }
 
-// One turn: reads behind what is kept, answers, counts, and writes. Where reading fails, or an answer can't be written, no counts are written.
+// One turn: reads behind what is kept, answers, counts, and writes. How much of the window is kept for the next turn comes back, nothing once the input is
+// over, or the status to end with. Where reading fails, or an answer can't be written, no counts are written.
 fn turn(
     input: &mut impl Read,
     rt: &(impl Print + Eprint),
@@ -52,60 +45,43 @@ fn turn(
     kept: usize,
     out: &mut [u8],
     counts: &mut [u32; 53],
-) -> Next
+) -> Result<Option<usize>, ExitCode>
     requires kept_inside { kept < length buf.old }
     requires line_fits { line_bytes < length buf.old }
     requires room { closing_room ≤ length out.old }
-    ensures { result.kept < length buf.new }
+    ensures { IfOk result (λ next. IfSome next (λ k. k < length buf.new)) }
 {
     let fresh = match input.read(&mut buf[kept..]) {
         Ok(fresh) => fresh,
-        Err(why) => {
-            return Next {
-                go: false,
-                kept: 0,
-                status: fail(rt, "read", why),
-            };
-        }
+        Err(why) => return Err(fail(rt, "read", why)),
     };
     let done = stream::turn(buf, kept, fresh, out, counts);
-    let put = done.put;
-    match write(rt, &out[..put]) {
-        Ok(()) => Next {
-            go: !done.over,
-            kept: done.kept,
-            status: ExitCode::SUCCESS,
-        },
-        Err(status) => Next {
-            go: false,
-            kept: done.kept,
-            status,
-        },
+    write(rt, &out[..done.put])?;
+    if done.over {
+        return Ok(None);
     }
+    Ok(Some(done.kept))
 }
 
-// The status to end with comes back.
+// Turns until the input is over, or a turn fails.
 fn answer_all(
     input: &mut impl Read,
     rt: &(impl Print + Eprint),
     buf: &mut [u8],
     out: &mut [u8],
     counts: &mut [u32; 53],
-) -> ExitCode
+) -> Result<(), ExitCode>
     requires line_fits { line_bytes < length buf.old }
     requires room { closing_room ≤ length out.old }
 {
     let mut kept = 0;
-    let mut turns = u64::MAX;
-    while turns > 0 {
-        let t = turn(input, rt, buf, kept, out, counts);
-        if !t.go {
-            return t.status;
+    for _ in 0..u64::MAX {
+        match turn(input, rt, buf, kept, out, counts)? {
+            Some(next) => kept = next,
+            None => return Ok(()),
         }
-        kept = t.kept;
-        turns -= 1;
     }
-    ExitCode::SUCCESS
+    Ok(())
 }
 
 fn main(rt: HostRuntime) -> ExitCode {
@@ -113,5 +89,8 @@ fn main(rt: HostRuntime) -> ExitCode {
     let mut out = [0u8; 65536];
     let mut counts = tally::fresh();
     let mut input = rt.stdin();
-    answer_all(&mut input, &rt, &mut buf, &mut out, &mut counts)
+    match answer_all(&mut input, &rt, &mut buf, &mut out, &mut counts) {
+        Ok(()) => ExitCode::SUCCESS,
+        Err(status) => status,
+    }
 }
