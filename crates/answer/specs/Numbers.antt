@@ -1,11 +1,16 @@
 -- The number of each verdict, severity and reason (docs/RULES.md, The answer).
-use Rattle.std.specs.Prelude.{ℕ}
+use Rattle.std.specs.Prelude.{Option, Some, None, ℕ}
 use Rattle.answer.specs.declared.verdict.Verdict.{Verdict}
 use Rattle.answer.specs.declared.verdict.Verdict.TheVariants.{NoRule, Accepted, Refused, Unread}
 use Rattle.answer.specs.declared.severity.Severity.{Severity}
-use Rattle.answer.specs.declared.severity.Severity.TheVariants.{NoSeverity, Fatal, Warning}
+use Rattle.answer.specs.declared.severity.Severity.TheVariants.{Fatal, Warning}
 use Rattle.answer.specs.declared.reason.Reason.{Reason}
-use Rattle.answer.specs.declared.reason.Reason.TheVariants.{NoReason, Long, Utf8, Form, Check, Zero, NoFigure, Scheme, Room, Good, Term, Line, Full}
+use Rattle.answer.specs.declared.reason.Reason.TheVariants.{Long, Utf8, Form, Check, Zero, NoFigure, Scheme, Room, Good, Term, Line, Full}
+
+-- the number of what may be missing: 0 where it is
+abbrev pub or_zero : {A : Type 0} → (A → ℕ) → Option A → ℕ
+or_zero number None = 0
+or_zero number (Some x) = number x
 
 abbrev pub verdict_number : Verdict → ℕ
 verdict_number NoRule = 0
@@ -14,12 +19,10 @@ verdict_number Refused = 2
 verdict_number Unread = 3
 
 abbrev pub severity_number : Severity → ℕ
-severity_number NoSeverity = 0
 severity_number Fatal = 1
 severity_number Warning = 2
 
 abbrev pub reason_number : Reason → ℕ
-reason_number NoReason = 0
 reason_number Long = 1
 reason_number Utf8 = 2
 reason_number Form = 3

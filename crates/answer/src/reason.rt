@@ -2,44 +2,28 @@
 ghost use Rattle.std.specs.Prelude.{◌≡◌};
 ghost use Rattle.answer.specs.Numbers.{reason_number};
 
-#[derive(Clone, Copy)]
+#[derive(Clone, Copy, PartialEq, Eq, Debug)]
 pub enum Reason {
-    // none is given: the content is not refused, or the work is done
-    NoReason,
-    Long,
-    Utf8,
-    Form,
-    Check,
-    Zero,
+    Long = 1,
+    Utf8 = 2,
+    Form = 3,
+    Check = 4,
+    Zero = 5,
     // no figure completes the body
-    NoFigure,
-    Scheme,
-    Room,
-    Good,
-    Term,
-    Line,
+    NoFigure = 6,
+    Scheme = 7,
+    Room = 8,
+    Good = 9,
+    Term = 10,
+    Line = 11,
     // a tally that can count no further line
-    Full,
+    Full = 12,
 }
 
-impl Reason {
-    pub fn number(self) -> u32
-        ensures { result ≡ reason_number self }
-    {
-        match self {
-            Reason::NoReason => 0,
-            Reason::Long => 1,
-            Reason::Utf8 => 2,
-            Reason::Form => 3,
-            Reason::Check => 4,
-            Reason::Zero => 5,
-            Reason::NoFigure => 6,
-            Reason::Scheme => 7,
-            Reason::Room => 8,
-            Reason::Good => 9,
-            Reason::Term => 10,
-            Reason::Line => 11,
-            Reason::Full => 12,
-        }
+impl From<Reason> for u32 {
+    ghost from_gives = { λ reason number. number ≡ reason_number reason };
+
+    fn from(reason: Reason) -> u32 {
+        reason as u32
     }
 }

@@ -1,17 +1,32 @@
 // The record, and the four kinds of answer there are.
 ghost use Rattle.std.specs.Prelude.{◌≡◌};
-ghost use Rattle.answer.specs.Answers.{no_rule, accepted, refused, unread};
+ghost use Rattle.answer.specs.Answers.{no_rule, accepted, refused, unread, answer_numbers};
 
 use super::reason::Reason;
 use super::severity::Severity;
 use super::verdict::Verdict;
 
-#[derive(Clone, Copy)]
+#[derive(Clone, Copy, PartialEq, Eq, Debug)]
 pub struct Answer {
     pub verdict: Verdict,
     pub rule: u32,
-    pub severity: Severity,
-    pub reason: Reason,
+    pub severity: Option<Severity>,
+    pub reason: Option<Reason>,
+}
+
+impl Answer {
+    #[tactic(auto, unfolding(crate::specs::Answers::answer_numbers))]
+    // Its numbers, in the order in which they are written; 0 where there is no severity or reason.
+    pub fn numbers(self) -> [u32; 4]
+        ensures { result ≡ answer_numbers self }
+    {
+        [
+            u32::from(self.verdict),
+            self.rule,
+            self.severity.map_or(0, u32::from),
+            self.reason.map_or(0, u32::from),
+        ]
+    }
 }
 
 pub fn no_rule() -> Answer
@@ -20,40 +35,40 @@ pub fn no_rule() -> Answer
     Answer {
         verdict: Verdict::NoRule,
         rule: 0,
-        severity: Severity::NoSeverity,
-        reason: Reason::NoReason,
+        severity: None,
+        reason: None,
     }
 }
 
-pub fn accepted(rule: u32, severity: Severity) -> Answer
+pub fn accepted(rule: u32, severity: Option<Severity>) -> Answer
     ensures { result ≡ accepted rule severity }
 {
     Answer {
         verdict: Verdict::Accepted,
         rule,
         severity,
-        reason: Reason::NoReason,
+        reason: None,
     }
 }
 
-pub fn unread(rule: u32, severity: Severity) -> Answer
+pub fn unread(rule: u32, severity: Option<Severity>) -> Answer
     ensures { result ≡ unread rule severity }
 {
     Answer {
         verdict: Verdict::Unread,
         rule,
         severity,
-        reason: Reason::NoReason,
+        reason: None,
     }
 }
 
-pub fn refused(rule: u32, severity: Severity, reason: Reason) -> Answer
+pub fn refused(rule: u32, severity: Option<Severity>, reason: Reason) -> Answer
     ensures { result ≡ refused rule severity reason }
 {
     Answer {
         verdict: Verdict::Refused,
         rule,
         severity,
-        reason,
+        reason: Some(reason),
     }
 }

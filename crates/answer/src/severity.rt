@@ -2,21 +2,16 @@
 ghost use Rattle.std.specs.Prelude.{◌≡◌};
 ghost use Rattle.answer.specs.Numbers.{severity_number};
 
-#[derive(Clone, Copy)]
+#[derive(Clone, Copy, PartialEq, Eq, Debug)]
 pub enum Severity {
-    NoSeverity,
-    Fatal,
-    Warning,
+    Fatal = 1,
+    Warning = 2,
 }
 
-impl Severity {
-    pub fn number(self) -> u32
-        ensures { result ≡ severity_number self }
-    {
-        match self {
-            Severity::NoSeverity => 0,
-            Severity::Fatal => 1,
-            Severity::Warning => 2,
-        }
+impl From<Severity> for u32 {
+    ghost from_gives = { λ severity number. number ≡ severity_number severity };
+
+    fn from(severity: Severity) -> u32 {
+        severity as u32
     }
 }

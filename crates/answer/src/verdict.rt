@@ -2,24 +2,19 @@
 ghost use Rattle.std.specs.Prelude.{◌≡◌};
 ghost use Rattle.answer.specs.Numbers.{verdict_number};
 
-#[derive(Clone, Copy)]
+#[derive(Clone, Copy, PartialEq, Eq, Debug)]
 pub enum Verdict {
-    NoRule,
-    Accepted,
-    Refused,
+    NoRule = 0,
+    Accepted = 1,
+    Refused = 2,
     // let through unread
-    Unread,
+    Unread = 3,
 }
 
-impl Verdict {
-    pub fn number(self) -> u32
-        ensures { result ≡ verdict_number self }
-    {
-        match self {
-            Verdict::NoRule => 0,
-            Verdict::Accepted => 1,
-            Verdict::Refused => 2,
-            Verdict::Unread => 3,
-        }
+impl From<Verdict> for u32 {
+    ghost from_gives = { λ verdict number. number ≡ verdict_number verdict };
+
+    fn from(verdict: Verdict) -> u32 {
+        verdict as u32
     }
 }
