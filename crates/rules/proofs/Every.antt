@@ -10,11 +10,11 @@ use Rattle.ascii.specs.Pick.{pick}
 use Rattle.ascii.proofs.Tests.{and_true}
 use Rattle.rules.specs.declared.rule.Rule.{Rule}
 use Rattle.rules.specs.declared.rule.Rule.TheVariants.{R40, R41, R42, R43, R44, R45, R46, R47, R49, R50, R52, R53, R54, R55, R57, R561, R562}
-use Rattle.rules.specs.declared.choice.Chosen.TheVariants.{By}
+use Rattle.std.specs.Prelude.{Some}
 use Rattle.rules.specs.Facts.{facts, rules}
 use Rattle.rules.specs.Choice.{rule_numbered}
 
-leads_back : (r : Rule) → (get_or rules (facts r).index R40 ≡ r) × (rule_numbered (facts r).number ≡ By r)
+leads_back : (r : Rule) → (get_or rules (facts r).index R40 ≡ r) × (rule_numbered (facts r).number ≡ Some r)
 unfolding rule_numbered pick
 leads_back R40 = (refl, refl)
 leads_back R41 = (refl, refl)
@@ -39,7 +39,7 @@ pub at_index : (r : Rule) → get_or rules (facts r).index R40 ≡ r
 at_index r = (leads_back r).0
 
 -- a published number leads back to its rule
-pub number_back : (r : Rule) → rule_numbered (facts r).number ≡ By r
+pub number_back : (r : Rule) → rule_numbered (facts r).number ≡ Some r
 number_back r = (leads_back r).1
 
 abbrev each : (Rule → Bool) → List Rule → Bool

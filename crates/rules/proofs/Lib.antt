@@ -1,5 +1,4 @@
 -- Laws of the rules: what they detect (Detection), what holds of every rule (Every), and what the code's own proofs cite.
-mod Keys
-mod Laws
+mod Schemes
 pub mod Every
 pub mod Detection

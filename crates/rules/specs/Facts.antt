@@ -1,26 +1,24 @@
 -- What is fixed about each rule: its place in the order of rules, its published number, its severity, the scheme that it goes by, and how it
 -- reads a content.
-use Rattle.std.specs.Prelude.{List, [], ◌∷◌, ℕ, get_or, take}
+use Rattle.std.specs.Prelude.{List, [], ◌∷◌, ℕ, take, Option, Some, None}
 use Prim.Native.String.{String}
 use Rattle.ascii.specs.Written.{bytes}
 use Rattle.answer.specs.declared.severity.Severity.{Severity}
 use Rattle.answer.specs.declared.severity.Severity.TheVariants.{Fatal, Warning}
 use Rattle.text.specs.declared.reading.Reading.TheVariants.{AsItStands, Normalised}
-use Rattle.rules.specs.declared.rule.Scheme.{Scheme}
-use Rattle.rules.specs.declared.rule.Scheme.TheVariants.{Four, NoScheme}
 use Rattle.rules.specs.declared.rule.Fixed.{Fixed}
 use Rattle.rules.specs.declared.rule.Rule.{Rule}
 use Rattle.rules.specs.declared.rule.Rule.TheVariants.{R40, R41, R42, R43, R44, R45, R46, R47, R49, R50, R52, R53, R54, R55, R57, R561, R562}
 
 -- a scheme as it is written: a code of the EAS list
-abbrev pub eas : String → Scheme
-eas s = Four (get_or (bytes s) 0 0) (get_or (bytes s) 1 0) (get_or (bytes s) 2 0) (get_or (bytes s) 3 0)
+abbrev pub eas : String → Option (List ℕ)
+eas s = Some (bytes s)
 
 -- "norm" reads normalised content, "raw" the content as it stands
-abbrev pub norm : ℕ → ℕ → Severity → Scheme → Fixed
+abbrev pub norm : ℕ → ℕ → Severity → Option (List ℕ) → Fixed
 norm i n s scheme = record { index = i; number = n; severity = s; scheme = scheme; reading = Normalised }
 
-abbrev pub raw : ℕ → ℕ → Severity → Scheme → Fixed
+abbrev pub raw : ℕ → ℕ → Severity → Option (List ℕ) → Fixed
 raw i n s scheme = record { index = i; number = n; severity = s; scheme = scheme; reading = AsItStands }
 
 abbrev pub facts : Rule → Fixed
@@ -41,7 +39,7 @@ facts R55 = norm 13 55 Warning (eas "0190")
 facts R57 = norm 14 57 Warning (eas "0217")
 facts R561 = norm 15 561 Warning (eas "9944")
 -- 562 goes by the term alone
-facts R562 = norm 16 562 Warning NoScheme
+facts R562 = norm 16 562 Warning None
 
 -- in the order of their numbers
 abbrev pub rules : List Rule
@@ -53,6 +51,6 @@ abbrev pub scheme_rules : List Rule
 scheme_rules = take 16 rules
 
 -- the bytes of a rule's scheme
-abbrev pub scheme_bytes : Scheme → List ℕ
-scheme_bytes (Four a b c d) = a ∷ b ∷ c ∷ d ∷ []
-scheme_bytes NoScheme = []
+abbrev pub scheme_bytes : Option (List ℕ) → List ℕ
+scheme_bytes (Some s) = s
+scheme_bytes None = []

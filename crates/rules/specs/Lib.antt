@@ -2,4 +2,3 @@
 pub mod Facts
 pub mod Choice
 pub mod Finding
-pub mod Inner

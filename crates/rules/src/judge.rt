@@ -1,39 +1,29 @@
 // What a rule finds in a text.
-ghost use Rattle.std.specs.Prelude.{◌≡◌, [], ◌∷◌};
+ghost use Rattle.std.specs.Prelude.{◌≡◌};
 ghost use Rattle.rules.specs.declared.rule.Rule.TheVariants.{R47, R562};
-ghost use Rattle.rules.specs.Finding.{finding, starts_with, is_italian, is_dutch};
+ghost use Rattle.rules.specs.Finding.{finding, is_italian, is_dutch};
 
 use super::rule::Rule;
 use codice::codice_fiscale;
 use figures::{Finding, form_only};
 
-// Whether a text begins with two bytes.
-fn starts_with(text: &[u8], a: u8, b: u8) -> bool
-    ensures { result ≡ starts_with (a ∷ b ∷ []) text.now }
-{
-    if text.len() < 2 {
-        return false;
-    }
-    if text[0] == a {
-        return text[1] == b;
-    }
-    false
-}
-
 // `It` is not Italian.
+#[tactic(auto, unfolding(crate::specs::Finding::is_italian))]
 fn is_italian(text: &[u8]) -> bool
     ensures { result ≡ is_italian text.now }
 {
-    starts_with(text, b'I', b'T') | starts_with(text, b'i', b't')
+    text.starts_with(b"IT") | text.starts_with(b"it")
 }
 
+#[tactic(auto, unfolding(crate::specs::Finding::is_dutch))]
 fn is_dutch(text: &[u8]) -> bool
     ensures { result ≡ is_dutch text.now }
 {
-    starts_with(text, b'N', b'L')
+    text.starts_with(b"NL")
 }
 
 // 47: what is not Italian is let through.
+#[tactic(auto, unfolding(ascii::specs::Pick::pick))]
 fn italian_vat(text: &[u8]) -> Finding
     ensures { result ≡ finding R47 text.now }
 {
@@ -44,6 +34,7 @@ fn italian_vat(text: &[u8]) -> Finding
 }
 
 // 562: what is not Dutch is let through.
+#[tactic(auto, unfolding(ascii::specs::Pick::pick))]
 fn dutch_if_said(text: &[u8]) -> Finding
     ensures { result ≡ finding R562 text.now }
 {

@@ -5,6 +5,6 @@ mod choice;
 mod judge;
 mod rule;
 
-pub use choice::{Chosen, rule_for};
+pub use choice::rule_for;
 pub use judge::finding;
-pub use rule::{Fixed, Rule, Scheme};
+pub use rule::{Fixed, Rule};
