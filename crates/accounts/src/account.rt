@@ -4,16 +4,13 @@ ghost use Rattle.accounts.specs.Rules.{iban_finding, creditor_finding};
 
 use super::number::remainder;
 use figures::{Finding, decided, form_only};
-use forms::{creditor_form, iban_form, is_fit};
+use forms::{creditor_form, iban_form};
 
 pub fn iban_text(text: &[u8]) -> Finding
     ensures { result ≡ iban_finding text.now }
 {
-    let fault = iban_form(text);
-    if is_fit(fault) {
-        return decided(remainder(text, 4) == 1);
-    }
-    Finding::Unfit(fault)
+    iban_form(text)?;
+    decided(remainder(text, 4) == 1)
 }
 
 // Its form is the whole test.

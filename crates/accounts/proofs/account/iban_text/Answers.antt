@@ -1,27 +1,26 @@
 -- `accounts::account::iban_text` meets its contract. Assumes nothing.
-use mathlib.Core.Path.{ap}
+use Rattle.std.specs.Prelude.{is_ok}
+use mathlib.Core.Path.{sym, ap}
 use native.Mathlib.Omega.{arith}
 use lib.Dec.{eqb}
-use Rattle.forms.specs.Form.{is_fit, fits}
+use Rattle.forms.specs.Form.{fits}
 use Rattle.forms.proofs.Named.{account_fits}
-use Rattle.figures.proofs.Judging.{fitted, unfitted, met}
+use Rattle.figures.proofs.Judging.{unmet, met}
 use Rattle.accounts.specs.Rules.{iban_finding}
 use Rattle.accounts.proofs.account.iban_text.Goals as goal
+
+pub returns-in_err-iban_form : goal.returns-in_err-iban_form
+unfolding iban_finding
+returns-in_err-iban_form c = unmet c.from_residual.ensures c.in_err-iban_form.ensures _
 
 pub remainder-requires : goal.remainder-requires
 unfolding fits
 remainder-requires c =
     let s = c.args.text.now in
-    let a = account_fits 5 34 s (omega arith) (ap is_fit (fitted _ c.is_fit.ensures c.iban_form-fault.ensures c.if-is_fit.true)) in
+    let a = account_fits 5 34 s (omega arith) (ap is_ok (sym c.in_ok-iban_form.ensures)) in
     let l = a.least in
     (omega arith, omega arith, a.plain)
 
-pub returns-then-is_fit : goal.returns-then-is_fit
-unfolding iban_finding
-returns-then-is_fit c =
-    met _ (fitted _ c.is_fit.ensures c.iban_form-fault.ensures c.if-is_fit.true)
-    (ap (λ t. eqb t 1) c.remainder.ensures) c.decided.ensures
-
 pub returns : goal.returns
 unfolding iban_finding
-returns c = unfitted _ c.is_fit.ensures c.iban_form-fault.ensures _ c.if-is_fit.false
+returns c = met _ c.in_ok-iban_form.ensures (ap (λ t. eqb t 1) c.remainder.ensures) c.decided.ensures
