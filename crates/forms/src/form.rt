@@ -3,6 +3,7 @@ ghost use Rattle.std.specs.Prelude.{◌≡◌};
 ghost use Rattle.forms.specs.Form.{of_class, class_at, wrong, fault_of, form_from};
 
 use ascii::{is_digit, is_letter, is_plain, wide};
+use std::cmp::min;
 
 // What is wrong with a text by a form: its length, or the first place whose byte is not of its class.
 #[derive(Clone, Copy, PartialEq, Eq, Debug)]
@@ -12,55 +13,42 @@ pub enum Fault {
 }
 
 // Whether a byte is of a class: `#` a digit, `&` a letter, `*` a letter or a digit, any other byte itself.
+#[tactic(auto, using(crate::proofs::Laws::class_digit, crate::proofs::Laws::class_letter, crate::proofs::Laws::class_plain, crate::proofs::Laws::class_self))]
 fn of_class(class: u8, b: u8) -> bool
     ensures { result ≡ of_class class b }
 {
-    if class == b'#' {
-        return is_digit(wide(b));
+    match class {
+        b'#' => is_digit(wide(b)),
+        b'&' => is_letter(wide(b)),
+        b'*' => is_plain(wide(b)),
+        _ => b == class,
     }
-    if class == b'&' {
-        return is_letter(wide(b));
-    }
-    if class == b'*' {
-        return is_plain(wide(b));
-    }
-    b == class
 }
 
 // The first place whose byte is not of its class.
 fn first_wrong(head: &[u8], rest: u8, text: &[u8]) -> Result<(), Fault>
     ensures { result ≡ wrong (class_at head.now rest) 0 text.now }
 {
-    let mut i: usize = 0;
-    while i < head.len() {
-        if text.len() <= i {
-            return Ok(());
-        }
-        if of_class(head[i], text[i]) {
-            i += 1;
-        } else {
-            return Err(Fault::At(i));
-        }
+    let front = min(head.len(), text.len());
+    if let Some(k) = head
+        .iter()
+        .zip(text)
+        .position(|(class, b)| !of_class(*class, *b))
+    {
+        return Err(Fault::At(k));
     }
-    while i < text.len() {
-        if of_class(rest, text[i]) {
-            i += 1;
-        } else {
-            return Err(Fault::At(i));
-        }
+    match text[front..].iter().position(|b| !of_class(rest, *b)) {
+        Some(k) => Err(Fault::At(front + k)),
+        None => Ok(()),
     }
-    Ok(())
 }
 
 // What is wrong with a text by the form of a head, the class of every byte after it, a least and a most length.
+#[tactic(auto, using(crate::proofs::Laws::fault_short, crate::proofs::Laws::fault_long, crate::proofs::Laws::fault_inside))]
 pub fn fault_of(head: &[u8], rest: u8, least: usize, most: usize, text: &[u8]) -> Result<(), Fault>
     ensures { result ≡ fault_of (form_from head.now rest least most) text.now }
 {
-    let n = text.len();
-    if n < least {
-        return Err(Fault::Length);
-    }
-    if most < n {
+    if text.len() < least || most < text.len() {
         return Err(Fault::Length);
     }
     first_wrong(head, rest, text)

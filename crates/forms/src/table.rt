@@ -45,6 +45,7 @@ pub fn dk_and_eight(text: &[u8]) -> Result<(), Fault>
     fault_of(b"DK", b'#', 10, 10, text)
 }
 
+#[tactic(auto, using(crate::proofs::Laws::picked_first, crate::proofs::Laws::picked_second))]
 pub fn danish(text: &[u8]) -> Result<(), Fault>
     ensures { result ≡ fault_of (named.danish_of text.now) text.now }
 {
@@ -54,6 +55,7 @@ pub fn danish(text: &[u8]) -> Result<(), Fault>
     dk_and_eight(text)
 }
 
+#[tactic(auto, using(crate::proofs::Laws::picked_first, crate::proofs::Laws::picked_second, crate::proofs::Laws::fault_empty))]
 pub fn italian(text: &[u8]) -> Result<(), Fault>
     ensures { result ≡ fault_of (named.italian_of text.now) text.now }
 {
