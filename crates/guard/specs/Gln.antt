@@ -2,8 +2,7 @@
 use Rattle.std.specs.Prelude.{List, ℕ}
 use Rattle.forms.specs.Form.{fault_of}
 use Rattle.forms.specs.Table.{digits}
-use Rattle.figures.specs.declared.finding.Finding.{Finding}
-use Rattle.figures.specs.Findings.{judged}
+use Rattle.figures.specs.Findings.{Finding, judged}
 use Rattle.figures.specs.Figures.{right, figure40}
 
 unfoldable pub strict_gln : List ℕ → Finding

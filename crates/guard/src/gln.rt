@@ -2,7 +2,7 @@
 ghost use Rattle.std.specs.Prelude.{◌≡◌};
 ghost use Rattle.guard.specs.Gln.{strict_gln};
 
-use figures::{Finding, gln};
+use figures::{Finding, Problem, gln};
 use forms::Fault;
 
 // What is found in a text as a GLN of exactly 13 digits: at that length what rule 40 finds.
@@ -12,5 +12,5 @@ pub fn gln_problem(text: &[u8]) -> Finding
     if text.len() == 13 {
         return gln(text);
     }
-    Finding::Unfit(Fault::Length)
+    Err(Problem::Unfit(Fault::Length))
 }

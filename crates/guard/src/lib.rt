@@ -4,5 +4,5 @@
 mod code;
 mod gln;
 
-pub use code::{Code, Withdrawal, withdrawn};
+pub use code::{Withdrawal, withdrawn};
 pub use gln::gln_problem;

@@ -6,6 +6,7 @@ use Prim.Native.Nat.{ℕ}
 use native.Mathlib.Omega.{arith}
 use borrow.Author.Tests.{leb-true, leb-false}
 use lib.Dec.{leb}
+use Rattle.std.specs.Prelude.{Result, Err, ⊤}
 use lib.ListN.{length}
 use Rattle.forms.specs.declared.form.Fault.{Fault}
 use Rattle.forms.specs.declared.form.Fault.TheVariants.{Length}
@@ -21,13 +22,13 @@ use Rattle.guard.proofs.gln.gln_problem.Goals as goal
 strict : (s : List ℕ) → length s ≡ 13 → gln s ≡ strict_gln s
 unfolding gln strict_gln
 strict s n =
-    ap (λ (y : Fault). judged y (right figure40 s))
+    ap (λ (y : Result ⊤ Fault). judged y (right figure40 s))
     (fault_inside (digits 1 1024) s (omega arith) (omega arith) ∙ sym (fault_inside (digits 13 13) s (omega arith) (omega arith)))
 
-other : (s : List ℕ) → (length s ≡ 13 → ⊥) → fault_of (digits 13 13) s ≡ Length
+other : (s : List ℕ) → (length s ≡ 13 → ⊥) → fault_of (digits 13 13) s ≡ Err Length
 other s n = go (leb 13 (length s)) refl
   where
-    go : (t : Bool) → leb 13 (length s) ≡ t → fault_of (digits 13 13) s ≡ Length
+    go : (t : Bool) → leb 13 (length s) ≡ t → fault_of (digits 13 13) s ≡ Err Length
     go true e = fault_long (digits 13 13) s (omega (arith, leb-true 13 (length s) e))
     go false e = fault_short (digits 13 13) s (leb-false 13 (length s) e)
 
