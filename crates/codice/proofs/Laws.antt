@@ -1,63 +1,25 @@
 -- Laws of the definitions, for the code's proofs. Assumes nothing.
 use mathlib.Core.Path.{◌≡◌, refl, ◌∙◌, sym, ap}
-use mathlib.Core.Bool.{Bool, true, false, and-true}
+use mathlib.Core.Bool.{Bool, true, false, ◌&&◌, and-true}
 use mathlib.Core.List.{List, [], ◌∷◌}
-use Prim.Native.Nat.{ℕ, zero, suc, ◌+◌, ◌-◌, ◌≤◌, ◌<◌}
-use native.Mathlib.Numerals.{add-one}
-use native.Mathlib.Omega.{arith}
-use borrow.Author.Tests.{le-leb, lt-leb, leb-true, leb-false}
-use lib.Dec.{leb}
-use lib.ListN.{length, get_or, take, drop, drop_of_length-le, length-drop}
+use Prim.Native.Nat.{ℕ, zero, suc, ◌-◌, ◌<◌}
+use lib.ListN.{length, get_or, take, drop}
 use lib.Seq.{drop-cons}
 use Rattle.ascii.specs.Pick.{pick}
+use Rattle.std.specs.List.{list_all}
 use Rattle.ascii.specs.Class.{all}
 use Rattle.text.specs.Content.{Piece, codes}
 use Rattle.forms.specs.declared.form.Fault.{Fault}
-use Rattle.forms.specs.declared.form.Fault.TheVariants.{Fits, At}
-use Rattle.codice.specs.Integer.{is_empty, past, is_sign, unsigned}
+use Rattle.std.specs.Prelude.{Result, Ok, Err, ⊤}
+use Rattle.forms.specs.declared.form.Fault.TheVariants.{At}
 use Rattle.codice.specs.Codice.{Group, part, failing}
 use Rattle.codice.specs.Inner.{Listed, Answered}
 
--- a test over the points from a place on
-module _ (p : ℕ → Bool) (s : List ℕ) (i : ℕ) where
-  pub past_more : i < length s → p (get_or s i 0) ≡ true → past p (drop i s) ≡ past p (drop (i + 1) s)
-  unfolding past pick
-  past_more h t = rw (add-one i, drop-cons s i 0 h, t)
-
-  pub past_here : i < length s → p (get_or s i 0) ≡ false → past p (drop i s) ≡ drop i s
-  unfolding past pick
-  past_here h t = rw (drop-cons s i 0 h, t)
-
-  pub past_end : length s ≤ i → past p (drop i s) ≡ drop i s
-  unfolding past
-  past_end h = rw (drop_of_length-le s h)
-
--- a sign at a place
-module _ (s : List ℕ) (i : ℕ) where
-  pub sign_none : length s ≤ i → unsigned (drop i s) ≡ drop i s
-  unfolding unsigned
-  sign_none h = rw (drop_of_length-le s h)
-
-  pub sign_one : i < length s → is_sign (get_or s i 0) ≡ true → unsigned (drop i s) ≡ drop (i + 1) s
-  unfolding unsigned pick
-  sign_one h t = rw (add-one i, drop-cons s i 0 h, t)
-
-  pub sign_not : i < length s → is_sign (get_or s i 0) ≡ false → unsigned (drop i s) ≡ drop i s
-  unfolding unsigned pick
-  sign_not h t = rw (drop-cons s i 0 h, t)
-
--- nothing is left from a place on, where the list ends before it
-empty_length : (l : List ℕ) → is_empty l ≡ leb (length l) 0
-unfolding is_empty
-empty_length [] = refl
-empty_length (c ∷ l) = sym (lt-leb (suc (length l)) 0 (omega arith))
-
-less : (a b : ℕ) (t : Bool) → leb a b ≡ t → leb (a - b) 0 ≡ t
-less a b true h = le-leb (a - b) 0 (omega (arith, leb-true a b h))
-less a b false h = lt-leb (a - b) 0 (omega (arith, leb-false a b h))
-
-pub empty_drop : (s : List ℕ) (i : ℕ) → is_empty (drop i s) ≡ leb (length s) i
-empty_drop s i = empty_length (drop i s) ∙ rw length-drop (less (length s) i (leb (length s) i) refl)
+-- `all` of std
+pub all_list : (p : ℕ → Bool) (l : List ℕ) → list_all p l ≡ all p l
+unfolding all
+all_list p [] = refl
+all_list p (c ∷ l) = ap (λ (t : Bool). p c && t) (all_list p l)
 
 -- one point
 pub one_point : (p : ℕ → Bool) (s : List ℕ) (i : ℕ) → i < length s → p (get_or s i 0) ≡ all p (take 1 (drop i s))
@@ -75,19 +37,39 @@ codes_drop zero ps = refl
 codes_drop (suc n) [] = refl
 codes_drop (suc n) (p ∷ ps) = codes_drop n ps
 
--- the groups one after another
+-- the groups one after another, each by what `passes` gives of it
+pick_ok : (t : Bool) (d : Fault) → Ok tt ≡ pick {A = Result ⊤ Fault} t (Ok tt) (Err d) → t ≡ true
+unfolding pick
+pick_ok true d e = refl
+pick_ok false d e = cc
+
 module _ (g : Group) (gs : List Group) (cs ats : List ℕ) {t : Bool} (e : t ≡ g.test (take (suc g.last - g.first) (drop g.first cs))) where
-  tested : {ps : List Piece} {u : Bool} → Listed cs ats ps → t ≡ u → g.test (codes (part g ps)) ≡ u
-  tested {ps} l h = rw (codes_take (suc g.last - g.first) (drop g.first ps), codes_drop g.first ps, l.number) (sym e ∙ h)
+  tested : {ps : List Piece} → Listed cs ats ps → g.test (codes (part g ps)) ≡ t
+  tested {ps} l = rw (codes_take (suc g.last - g.first) (drop g.first ps), codes_drop g.first ps, l.number) (sym e)
 
-  pub group_ok : t ≡ true → {x : Fault} → Answered gs cs ats x → Answered (g ∷ gs) cs ats x
+  abbrev place : Fault
+  place = At (get_or ats g.first 0)
+
+  ok : t ≡ true → {y : Result ⊤ Fault} → Answered gs cs ats y → Answered (g ∷ gs) cs ats y
   unfolding failing pick
-  group_ok h r = λ ps l. rw (tested l h) (r ps l)
+  ok h r = λ ps l. rw (tested l, h) (r ps l)
 
-  pub group_bad : t ≡ false → Answered (g ∷ gs) cs ats (At (get_or ats g.first 0))
-  unfolding failing pick
-  group_bad h = λ ps l. rw (tested l h, l.place)
+  -- the group of any points passes unasked
+  pub group_free : t ≡ true → {y : Result ⊤ Fault} → Answered gs cs ats y → Answered (g ∷ gs) cs ats y
+  group_free h r = ok h r
 
-pub group_none : (cs ats : List ℕ) → Answered [] cs ats Fits
-unfolding failing
-group_none cs ats = λ ps l. refl
+  module _ {x : Result ⊤ Fault} (q : x ≡ pick t (Ok tt) (Err place)) where
+    pub group_passed : x ≡ Ok tt → {y : Result ⊤ Fault} → Answered gs cs ats y → Answered (g ∷ gs) cs ats y
+    group_passed h r = ok (pick_ok t place (sym h ∙ q)) r
+
+    failed : (u : Bool) → t ≡ u → {d : Fault} → Err d ≡ pick {A = Result ⊤ Fault} u (Ok tt) (Err place) → Answered (g ∷ gs) cs ats (Err d)
+    unfolding failing pick
+    failed true h w = cc
+    failed false h w = λ ps l. rw (tested l, h, l.place) w
+
+    pub group_failed : {d : Fault} → x ≡ Err d → Answered (g ∷ gs) cs ats (Err d)
+    group_failed h = failed t refl (sym h ∙ q)
+
+  pub group_last : {x : Result ⊤ Fault} → x ≡ pick t (Ok tt) (Err place) → gs ≡ [] → Answered (g ∷ gs) cs ats x
+  unfolding failing
+  group_last q n = λ ps l. rw (tested l, l.place, n) q

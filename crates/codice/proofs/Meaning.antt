@@ -15,7 +15,7 @@ use Rattle.ascii.proofs.Tests.{and_true, false_true}
 use Rattle.text.specs.White.{is_white}
 use Rattle.text.specs.Content.{Piece, malformed, content, content_of, codes}
 use Rattle.forms.specs.declared.form.Fault.TheVariants.{Length, At}
-use Rattle.forms.specs.Form.{is_fit}
+use Rattle.std.specs.Prelude.{Err, is_ok}
 use Rattle.forms.proofs.Follows.{fit_pick}
 use Rattle.codice.specs.Integer.{is_empty, past, trim_end, is_sign, unsigned, one_or_more_digits, integer_text}
 use Rattle.codice.specs.Codice.{Group, part, groups_of16, groups_of11, places, failing, codice_of, codice_fault}
@@ -23,12 +23,12 @@ use Rattle.codice.specs.Meaning.{all_pass, is_codice}
 use Rattle.codice.proofs.Trim.{digit_dark, digit_unsigned, some_first, integer_read}
 
 -- no group fails exactly when each passes
-fit_passes : (gs : List Group) (ps : List Piece) → is_fit (failing gs ps) ≡ all_pass gs ps
+fit_passes : (gs : List Group) (ps : List Piece) → is_ok (failing gs ps) ≡ all_pass gs ps
 unfolding failing all_pass
 fit_passes [] ps = refl
 fit_passes (g ∷ gs) ps =
     let t = g.test (codes (part g ps)) in
-    fit_pick t (failing gs ps) (At (get_or (places ps) g.first 0)) refl ∙ ap (λ (x : Bool). t && x) (fit_passes gs ps)
+    fit_pick t (failing gs ps) (Err (At (get_or (places ps) g.first 0))) refl ∙ ap (λ (x : Bool). t && x) (fit_passes gs ps)
 
 -- 11 points are one group
 whole : (ps : List Piece) → length ps ≡ 11 → all_pass groups_of11 ps ≡ integer_text (codes ps)
@@ -36,19 +36,19 @@ unfolding all_pass
 whole ps h = let l : length ps ≤ 11 = omega arith in rw (take_all 11 ps l) (bool.and-true (integer_text (codes ps)))
 
 by_count : (ps : List Piece) (t u : Bool) → eqb (length ps) 11 ≡ u
-    → is_fit (pick t (failing groups_of16 ps) (pick u (failing groups_of11 ps) Length)) ≡ pick t (all_pass groups_of16 ps) (u && integer_text (codes ps))
+    → is_ok (pick t (failing groups_of16 ps) (pick u (failing groups_of11 ps) (Err Length))) ≡ pick t (all_pass groups_of16 ps) (u && integer_text (codes ps))
 unfolding pick
 by_count ps true u f = fit_passes groups_of16 ps
 by_count ps false true f = fit_passes groups_of11 ps ∙ whole ps (eqb-true (length ps) 11 f)
 by_count ps false false f = refl
 
 -- a text fits exactly when it is well-formed and its code points are a codice fiscale
-pub codice_fits : (s : List ℕ) (ps : List Piece) → content_of s ≡ content ps → is_fit (codice_fault s) ≡ is_codice ps
+pub codice_fits : (s : List ℕ) (ps : List Piece) → content_of s ≡ content ps → is_ok (codice_fault s) ≡ is_codice ps
 unfolding codice_fault codice_of is_codice
 codice_fits s ps e = rw e (by_count ps (eqb (length ps) 16) (eqb (length ps) 11) refl)
 
 -- a text that is not well-formed has no number of points that fits
-pub codice_malformed : (s : List ℕ) → content_of s ≡ malformed → codice_fault s ≡ Length
+pub codice_malformed : (s : List ℕ) → content_of s ≡ malformed → codice_fault s ≡ Err Length
 unfolding codice_fault codice_of
 codice_malformed s e = rw e
 

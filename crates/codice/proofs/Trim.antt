@@ -2,13 +2,11 @@
 use mathlib.Core.Path.{◌≡◌, refl, ◌∙◌, sym, ap}
 use mathlib.Core.Bool.{Bool, true, false, not, ◌&&◌, ◌||◌}
 use mathlib.Core.List.{List, [], ◌∷◌}
-use Prim.Native.Nat.{ℕ, ◌+◌, ◌≤◌, ◌<◌}
-use native.Mathlib.Numerals.{add-one}
+use Prim.Native.Nat.{ℕ, suc, ◌≤◌, ◌<◌}
 use native.Mathlib.Omega.{arith}
-use borrow.Author.Tests.{eqb-true, not-true}
-use lib.Dec.{eqb}
-use lib.ListN.{length, get_or, drop, drop_of_length-le}
-use lib.Seq.{drop-cons}
+use borrow.Author.Tests.{eqb-true, ne_eqb, not-true, lt-ltb, le-ltb}
+use lib.Dec.{eqb, ltb}
+use lib.ListN.{length}
 use Rattle.ascii.specs.Pick.{pick}
 use Rattle.ascii.specs.Class.{within, is_digit, all, among}
 use Rattle.ascii.proofs.Tests.{false_true, implies, implies_use, below, below_at}
@@ -83,17 +81,33 @@ some_first c m e = rw (digit_dark c e) (rw e (sym (digits_left m)))
 some_not : (c : ℕ) (m : List ℕ) → is_digit c ≡ false → one_or_more_digits (trim_end (c ∷ m)) ≡ false
 some_not c m e = (other_step c m (is_white c && is_empty (trim_end m)) e refl).1
 
-module _ (s : List ℕ) (i : ℕ) where
-  pub number_none : length s ≤ i → one_or_more_digits (trim_end (drop i s)) ≡ false
-  unfolding trim_end one_or_more_digits
-  number_none h = rw (drop_of_length-le s h)
+-- past some digits a list is shorter
+past_step : (p : ℕ → Bool) (c : ℕ) (m : List ℕ) (t : Bool) → p c ≡ t → length (past p m) ≤ length m → length (past p (c ∷ m)) ≤ suc (length m)
+unfolding past pick
+past_step p c m true e h = rw e (omega arith)
+past_step p c m false e h = rw e (omega arith)
 
-  pub number_not : i < length s → is_digit (get_or s i 0) ≡ false → one_or_more_digits (trim_end (drop i s)) ≡ false
-  number_not h t = rw (drop-cons s i 0 h) (some_not (get_or s i 0) _ t)
+past_length : (p : ℕ → Bool) (l : List ℕ) → length (past p l) ≤ length l
+unfolding past
+past_length p [] = omega arith
+past_length p (c ∷ m) = past_step p c m (p c) refl (past_length p m)
 
-  pub number_first : i < length s → is_digit (get_or s i 0) ≡ true
-      → one_or_more_digits (trim_end (drop i s)) ≡ is_empty (past is_white (past is_digit (drop (i + 1) s)))
-  number_first h t = rw (add-one i, drop-cons s i 0 h) (some_first (get_or s i 0) _ t)
+nothing_left : (l : List ℕ) → is_empty l ≡ eqb (length l) 0
+unfolding is_empty
+nothing_left [] = refl
+nothing_left (c ∷ l) = sym (ne_eqb (suc (length l)) 0 (λ e. omega arith))
+
+number_step : (c : ℕ) (m : List ℕ) (t : Bool) → is_digit c ≡ t
+    → (ltb (length (past is_digit (c ∷ m))) (suc (length m)) && eqb (length (past is_white (past is_digit (c ∷ m)))) 0) ≡ one_or_more_digits (trim_end (c ∷ m))
+unfolding past pick
+number_step c m true e = rw (e, lt-ltb (length (past is_digit m)) (suc (length m)) (let h = past_length is_digit m in omega arith)) (sym (some_first c m e ∙ nothing_left _))
+number_step c m false e = rw (e, some_not c m e, le-ltb (suc (length m)) (suc (length m)) (omega arith)) refl
+
+pub number_read : (l behind left : List ℕ) → behind ≡ past is_digit l → left ≡ past is_white behind
+    → (ltb (length behind) (length l) && eqb (length left) 0) ≡ one_or_more_digits (trim_end l)
+unfolding past trim_end one_or_more_digits
+number_read [] behind left e f = rw (f, e) refl
+number_read (c ∷ m) behind left e f = rw (f, e) (number_step c m (is_digit c) refl)
 
 -- ---- the sign and the end do not meet
 

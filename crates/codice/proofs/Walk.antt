@@ -10,9 +10,10 @@ use lib.ListN.{length, take, drop, set, get_or, length-append, length-set, lengt
 use lib.Seq.{take-suc-set, length-take-le, take_all, get_or-take}
 use Rattle.ascii.specs.Pick.{pick}
 use Rattle.forms.specs.declared.form.Fault.{Fault}
-use Rattle.forms.specs.declared.form.Fault.TheVariants.{Fits, Length, At}
-use Rattle.text.specs.declared.utf8.Step.TheVariants.{Point, Refused}
-use Rattle.text.specs.Utf8.{step_of}
+use Rattle.forms.specs.declared.form.Fault.TheVariants.{Length, At}
+use Rattle.std.specs.Prelude.{Result, Option, Some, None, Ok, Err, ⊤}
+use Rattle.text.specs.declared.utf8.Point.{Point}
+use Rattle.text.specs.Utf8.{point, step_of}
 use Rattle.text.specs.Content.{Piece, Content, malformed, content, with_first, content_of, codes}
 use Rattle.text.proofs.Points.{rest, point_fits, at_refused, at_last, unroll}
 use Rattle.codice.specs.Integer.{integer_text}
@@ -33,7 +34,7 @@ join_more pre p malformed = refl
 join_more pre p (content ps) = ap content (simp append_assoc)
 
 -- more than 16 points are of no number that fits
-many : (pre : List Piece) (p : Piece) (y : Content) → length pre ≡ 16 → codice_of (join pre (with_first p y)) ≡ Length
+many : (pre : List Piece) (p : Piece) (y : Content) → length pre ≡ 16 → codice_of (join pre (with_first p y)) ≡ Err Length
 unfolding codice_of pick
 many pre p malformed h = refl
 many pre p (content ps) h =
@@ -71,7 +72,7 @@ begin s cs ats h g =
     }
 
 module _ (s cs ats : List ℕ) (n at : ℕ) (w : Walk s cs ats n at) where
-  pub stop : at < length s → Refused ≡ step_of (drop at s) → codice_fault s ≡ Length
+  pub stop : at < length s → None ≡ step_of (drop at s) → codice_fault s ≡ Err Length
   unfolding codice_fault codice_of
   stop h e = rw (sym w.left ∙ ap (join w.done) (at_refused s at h e))
 
@@ -86,7 +87,7 @@ module _ (s cs ats : List ℕ) (n at : ℕ) (w : Walk s cs ats n at) where
         room2 = w.room2;
       }
 
-  module _ (c k : ℕ) (e : Point c k ≡ step_of (drop at s)) where
+  module _ (c k : ℕ) (e : point c k ≡ step_of (drop at s)) where
     pub fits : (1 ≤ k) × (at + k ≤ length s)
     fits = point_fits s at w.inside c k e
 
@@ -96,17 +97,16 @@ module _ (s cs ats : List ℕ) (n at : ℕ) (w : Walk s cs ats n at) where
     split : join w.done (with_first piece (rest s (at + k))) ≡ content_of s
     split = ap (join w.done) (sym (unroll s at c k e)) ∙ w.left
 
-    pub over : n ≡ 16 → codice_fault s ≡ Length
+    over : n ≡ 16 → codice_fault s ≡ Err Length
     unfolding codice_fault
     over h =
         let l = w.room in
         let z : length w.done ≡ 16 = counted w.done cs n (omega arith) w.listed.number ∙ h in
         ap codice_of (sym split) ∙ many w.done piece (rest s (at + k)) z
 
-    pub turn : (n ≡ 16 → ⊥) → Walk s (set cs n c) (set ats n at) (n + 1) (at + k)
+    pub turn : n < 16 → Walk s (set cs n c) (set ats n at) (n + 1) (at + k)
     turn h =
         let z = fits in
-        let g : n < 16 = less n w.few h in
         record {
           done = w.done ++ piece ∷ [];
           few = omega arith;
@@ -114,14 +114,19 @@ module _ (s cs ats : List ℕ) (n at : ℕ) (w : Walk s cs ats n at) where
           room2 = simp length-set w.room2;
           inside = z.1;
           listed = record {
-            number = one_more (λ (p : Piece). p.code) w.done piece cs n (rw w.room g) w.listed.number;
-            place = one_more (λ (p : Piece). p.at) w.done piece ats n (rw w.room2 g) w.listed.place;
+            number = one_more (λ (p : Piece). p.code) w.done piece cs n (rw w.room h) w.listed.number;
+            place = one_more (λ (p : Piece). p.at) w.done piece ats n (rw w.room2 h) w.listed.place;
           };
           left = join_more w.done piece (rest s (at + k)) ∙ split;
         }
-      where
-        less : (a : ℕ) → a ≤ 16 → (a ≡ 16 → ⊥) → a < 16
-        less a p q = omega (arith, q)
+
+  -- something is left behind 16 points
+  pub full : n ≡ 16 → at < length s → codice_fault s ≡ Err Length
+  full h l = next (step_of (drop at s)) refl
+    where
+      next : (x : Option Point) → x ≡ step_of (drop at s) → codice_fault s ≡ Err Length
+      next None e = stop l e
+      next (Some p) e = over p.code p.len e h
 
 -- the answer by the number of code points
 module _ (s cs ats : List ℕ) (n : ℕ) (t : Stand s cs ats n) where
@@ -131,7 +136,7 @@ module _ (s cs ats : List ℕ) (n : ℕ) (t : Stand s cs ats n) where
       let b = t.room in
       counted t.points cs n (omega arith) t.listed.number
 
-  pub sixteen : n ≡ 16 → {x : Fault} → Answered groups_of16 cs ats x → x ≡ codice_fault s
+  pub sixteen : n ≡ 16 → {x : Result ⊤ Fault} → Answered groups_of16 cs ats x → x ≡ codice_fault s
   unfolding codice_fault codice_of pick
   sixteen h r =
       let a : length cs ≤ n = let b = t.room in omega arith in
@@ -139,14 +144,14 @@ module _ (s cs ats : List ℕ) (n : ℕ) (t : Stand s cs ats n) where
       rw (t.reads, eq-eqb (length t.points) 16 (size ∙ h))
       (r t.points (record { number = t.listed.number ∙ take_all n cs a; place = t.listed.place ∙ take_all n ats d }))
 
-  pub eleven : n ≡ 11 → {b : Bool} → b ≡ integer_text (take 11 cs) → pick b Fits (At (get_or ats 0 0)) ≡ codice_fault s
+  pub eleven : n ≡ 11 → {b : Bool} → b ≡ integer_text (take 11 cs) → pick b (Ok tt) (Err (At (get_or ats 0 0))) ≡ codice_fault s
   unfolding codice_fault codice_of failing pick
   eleven h q =
       let a : length t.points ≤ 11 = omega (arith, size) in
       rw (t.reads, ne_eqb (length t.points) 16 (λ p. omega (arith, size)), eq-eqb (length t.points) 11 (size ∙ h))
       (rw (q, take_all 11 t.points a, t.listed.number, t.listed.place, h, get_or-take 11 ats 0 0 (omega arith)))
 
-  pub another : (n ≡ 16 → ⊥) → (n ≡ 11 → ⊥) → codice_fault s ≡ Length
+  pub another : (n ≡ 16 → ⊥) → (n ≡ 11 → ⊥) → codice_fault s ≡ Err Length
   unfolding codice_fault codice_of pick
   another h g =
       rw (t.reads, ne_eqb (length t.points) 16 (λ p. h (sym size ∙ p)), ne_eqb (length t.points) 11 (λ p. g (sym size ∙ p)))

@@ -1,10 +1,10 @@
 -- Rules 45 and 46: 16 code points in groups, or 11 of an integer text.
-use Rattle.std.specs.Prelude.{Bool, true, List, [], ◌∷◌, map, ℕ, suc, ◌-◌, eqb, length, get_or, take, drop}
+use Rattle.std.specs.Prelude.{Bool, true, List, [], ◌∷◌, map, ℕ, suc, ◌-◌, ◌==◌, length, slice_index, take, drop, Result, Ok, Err, ⊤}
 use Rattle.ascii.specs.Pick.{pick}
 use Rattle.ascii.specs.Class.{is_digit, is_letter, all}
 use Rattle.text.specs.Content.{Piece, Content, malformed, content, content_of, codes}
 use Rattle.forms.specs.declared.form.Fault.{Fault}
-use Rattle.forms.specs.declared.form.Fault.TheVariants.{Fits, Length, At}
+use Rattle.forms.specs.declared.form.Fault.TheVariants.{Length, At}
 use Rattle.codice.specs.Integer.{integer_text}
 
 -- a group: the points from a first to a last, counted from 0, and the test that they must pass
@@ -50,17 +50,17 @@ abbrev pub places : List Piece → List ℕ
 places ps = map (λ (p : Piece). p.at) ps
 
 -- the place of the first group that fails
-unfoldable pub failing : List Group → List Piece → Fault
-failing [] ps = Fits
-failing (g ∷ gs) ps = pick (g.test (codes (part g ps))) (failing gs ps) (At (get_or (places ps) g.first 0))
+unfoldable pub failing : List Group → List Piece → Result ⊤ Fault
+failing [] ps = Ok tt
+failing (g ∷ gs) ps = pick (g.test (codes (part g ps))) (failing gs ps) (Err (At (slice_index (places ps) g.first)))
 
-unfoldable pub codice_of : Content → Fault
-codice_of malformed = Length
+unfoldable pub codice_of : Content → Result ⊤ Fault
+codice_of malformed = Err Length
 codice_of (content ps) =
-    pick (eqb (length ps) 16) (failing groups_of16 ps)
-    (pick (eqb (length ps) 11) (failing groups_of11 ps)
-    Length)
+    pick (length ps == 16) (failing groups_of16 ps)
+    (pick (length ps == 11) (failing groups_of11 ps)
+    (Err Length))
 
 -- what is wrong with a text: how many code points it has, or the place of the first group that fails
-unfoldable pub codice_fault : List ℕ → Fault
+unfoldable pub codice_fault : List ℕ → Result ⊤ Fault
 codice_fault s = codice_of (content_of s)

@@ -1,5 +1,5 @@
 -- An integer text, over code points: after trimming, at most one + or - and then one or more digits.
-use Rattle.std.specs.Prelude.{Bool, true, false, ◌&&◌, ◌||◌, List, [], ◌∷◌, ℕ, eqb}
+use Rattle.std.specs.Prelude.{Bool, true, false, ◌&&◌, ◌||◌, List, [], ◌∷◌, ℕ, ◌==◌}
 use Prim.Native.Char.{code}
 use Rattle.ascii.specs.Pick.{pick}
 use Rattle.ascii.specs.Class.{is_digit, all}
@@ -24,7 +24,7 @@ abbrev pub trim : List ℕ → List ℕ
 trim l = trim_end (past is_white l)
 
 unfoldable pub is_sign : ℕ → Bool
-is_sign c = eqb c (code "+") || eqb c (code "-")
+is_sign c = (c == code "+") || (c == code "-")
 
 -- without one sign
 unfoldable pub unsigned : List ℕ → List ℕ

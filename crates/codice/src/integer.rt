@@ -1,84 +1,58 @@
 // Integer text over code points.
-ghost use Rattle.std.specs.Prelude.{◌≡◌, drop};
-ghost use Rattle.ascii.specs.Class.{is_digit};
-ghost use Rattle.text.specs.White.{is_white};
+ghost use Rattle.std.specs.Prelude.{◌≡◌, Bool, ℕ};
 ghost use Rattle.codice.specs.Integer.{past, is_sign, unsigned, trim_end, one_or_more_digits, integer_text};
+ghost use Rattle.codice.specs.Inner.{Tests};
 
 use ascii::is_digit;
 use text::is_white;
 
-// The place past the white points from `at` on.
-fn past_white(p: &[u32], at: usize) -> usize
-    ensures { drop result p.now ≡ past is_white (drop at p.now) }
+// What is left past the points at the start that pass a test.
+#[tactic(auto, unfolding(crate::specs::Integer::past, ascii::specs::Pick::pick))]
+fn past<F: Fn(u32) -> bool>(p: &[u32], test: F) -> &[u32]
+    requires { F.IsAlwaysCallable test }
+    ensures { (q : ℕ → Bool) → Tests (F.post test) q → result.now ≡ past q p.now }
 {
-    let mut i = at;
-    while i < p.len() {
-        if is_white(p[i]) {
-            i += 1;
-        } else {
-            return i;
+    let mut rest = p;
+    while let [c, after @ ..] = rest {
+        if !test(*c) {
+            return rest;
         }
+        rest = after;
     }
-    i
+    rest
 }
 
-// The place past the digits from `at` on.
-fn past_digits(p: &[u32], at: usize) -> usize
-    ensures { drop result p.now ≡ past is_digit (drop at p.now) }
-{
-    let mut i = at;
-    while i < p.len() {
-        if is_digit(p[i]) {
-            i += 1;
-        } else {
-            return i;
-        }
-    }
-    i
-}
-
+#[tactic(auto, unfolding(crate::specs::Integer::is_sign))]
 fn is_sign(c: u32) -> bool
     ensures { result ≡ is_sign c }
 {
-    if c == 0x2b {
-        return true;
-    }
-    c == 0x2d
+    (c == 0x2b) | (c == 0x2d)
 }
 
-// The place past one sign at `at`.
-fn past_sign(p: &[u32], at: usize) -> usize
-    ensures { drop result p.now ≡ unsigned (drop at p.now) }
+// What is left past one sign.
+#[tactic(auto, unfolding(crate::specs::Integer::unsigned, ascii::specs::Pick::pick))]
+fn unsigned(p: &[u32]) -> &[u32]
+    ensures { result.now ≡ unsigned p.now }
 {
-    if p.len() <= at {
-        return at;
+    match p {
+        [first, rest @ ..] if is_sign(*first) => rest,
+        _ => p,
     }
-    if is_sign(p[at]) {
-        return at + 1;
-    }
-    at
 }
 
-// One or more digits from `at` on, and only white after them.
-fn is_number(p: &[u32], at: usize) -> bool
-    ensures { result ≡ one_or_more_digits (trim_end (drop at p.now)) }
+// One or more digits, and only white after them.
+fn is_number(p: &[u32]) -> bool
+    ensures { result ≡ one_or_more_digits (trim_end p.now) }
 {
-    if p.len() <= at {
-        return false;
-    }
-    if is_digit(p[at]) {
-        let e = past_digits(p, at + 1);
-        let f = past_white(p, e);
-        return p.len() <= f;
-    }
-    false
+    let behind = past(p, |c| is_digit(c));
+    let left = past(behind, |c| is_white(c));
+    (behind.len() < p.len()) & (left.len() == 0)
 }
 
 // After trimming, at most one sign and then one or more digits.
 pub fn castable_integer(p: &[u32]) -> bool
     ensures { result ≡ integer_text p.now }
 {
-    let a = past_white(p, 0);
-    let b = past_sign(p, a);
-    is_number(p, b)
+    let trimmed = past(p, |c| is_white(c));
+    is_number(unsigned(trimmed))
 }

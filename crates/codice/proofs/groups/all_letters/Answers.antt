@@ -1,16 +1,13 @@
-use mathlib.Core.Path.{refl, ◌∙◌, sym}
+-- `codice::groups::all_letters` meets its contract. Assumes nothing.
+use mathlib.Core.Path.{◌∙◌}
+use Rattle.std.proofs.Common.{rules, tests}
+use Rattle.std.proofs.lemmas.Iterator.{YieldsList-from_slice}
+use Rattle.std.proofs.lemmas.Iterator.Search.{all_from_yields_List}
 use Rattle.ascii.specs.Class.{is_letter}
-use Rattle.ascii.proofs.Class.{all_next, all_end}
+use Rattle.codice.proofs.Laws.{all_list}
 use Rattle.codice.proofs.groups.all_letters.Goals as goal
 
-pub loop-i-init : goal.loop-i-init
-loop-i-init c = refl
-
-pub loop-i-preserved : goal.loop-i-preserved
-loop-i-preserved c = c.loop-i.invariant ∙ all_next is_letter _ _ c.loop-i-test.true ∙ rw (sym c.is_letter.ensures ∙ c.if-is_letter.true)
-
-pub returns-else-is_letter : goal.returns-else-is_letter
-returns-else-is_letter c = sym (c.loop-i.invariant ∙ all_next is_letter _ _ c.loop-i-test.true ∙ rw (sym c.is_letter.ensures ∙ c.if-is_letter.false))
-
 pub returns : goal.returns
-returns c = sym (c.loop-i.invariant ∙ all_end is_letter _ _ c.loop-i-test.false)
+returns c =
+    all_from_yields_List is_letter _ _ _ c.all.ensures.ran (YieldsList-from_slice c.args.p.now cc) (λ x b q k. search (rules, tests))
+    ∙ all_list is_letter c.args.p.now
