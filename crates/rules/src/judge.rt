@@ -5,7 +5,7 @@ ghost use Rattle.rules.specs.Finding.{finding, is_italian, is_dutch};
 
 use super::rule::Rule;
 use codice::codice_fiscale;
-use figures::{Finding, form_only};
+use figures::{Finding, Passed, form_only};
 
 // `It` is not Italian.
 #[tactic(auto, unfolding(crate::specs::Finding::is_italian))]
@@ -28,9 +28,10 @@ fn italian_vat(text: &[u8]) -> Finding
     ensures { result ≡ finding R47 text.now }
 {
     if is_italian(text) {
-        return figures::partita_iva(text);
+        figures::partita_iva(text)
+    } else {
+        Ok(Passed::Through)
     }
-    Finding::Through
 }
 
 // 562: what is not Dutch is let through.
@@ -39,9 +40,10 @@ fn dutch_if_said(text: &[u8]) -> Finding
     ensures { result ≡ finding R562 text.now }
 {
     if is_dutch(text) {
-        return form_only(forms::dutch_vat(text));
+        form_only(forms::dutch_vat(text))
+    } else {
+        Ok(Passed::Through)
     }
-    Finding::Through
 }
 
 pub fn finding(rule: Rule, text: &[u8]) -> Finding
