@@ -1,15 +1,14 @@
 // Withdrawn codes.
-use guard::Withdrawal;
 use std::io;
 
 pub fn show_code(rt: &impl Print, code: &[u8]) -> io::Result<()> {
-    match guard::withdrawn(code) {
-        Withdrawal::NotWithdrawn => rt.write_all(b" not withdrawn"),
-        Withdrawal::NoSuccessor => rt.write_all(b" withdrawn"),
-        Withdrawal::Successor(s) => {
-            let four = [s.a, s.b, s.c, s.d];
-            rt.write_all(b" withdrawn, use ")?;
-            rt.write_all(&four)
-        }
+    let Some(withdrawal) = guard::withdrawn(code) else {
+        return rt.write_all(b" not withdrawn");
+    };
+    rt.write_all(b" withdrawn")?;
+    if let Some(successor) = withdrawal.successor {
+        rt.write_all(b", use ")?;
+        rt.write_all(&successor)?;
     }
+    Ok(())
 }

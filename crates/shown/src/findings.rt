@@ -1,21 +1,11 @@
 // What is found by a check figure.
-use super::numbers::number;
-use super::words::{behind, decimal, word_end};
-use figures::Finding;
+use super::words::{decimal, split_word};
+use answer::Reason;
+use figures::{Finding, Problem};
 use forms::Fault;
 use std::io;
 
-fn show_fault(rt: &impl Print, fault: Fault) -> io::Result<()> {
-    match fault {
-        Fault::Fits => Ok(()),
-        Fault::Length => rt.write_all(b" length"),
-        Fault::At(place) => {
-            rt.write_all(b" at")?;
-            number(rt, place as u64)
-        }
-    }
-}
-
+// By the number of a rule. It is matched once, so a type for the six would only be matched again.
 fn figure(rule: u32, text: &[u8]) -> Finding {
     match rule {
         40 => figures::gln(text),
@@ -27,16 +17,22 @@ fn figure(rule: u32, text: &[u8]) -> Finding {
     }
 }
 
-// The number of a rule with a check figure, and a text: the reason, and what is wrong with the form.
-pub fn show_figure(rt: &impl Print, field: &[u8]) -> io::Result<()> {
-    let rule_end = word_end(field);
-    let start = behind(field);
-    let n = field.len();
-    let found = figure(decimal(&field[0..rule_end]), &field[start..n]);
-    let reason = figures::reason(found);
-    number(rt, reason.number() as u64)?;
-    if let Finding::Unfit(fault) = found {
-        show_fault(rt, fault)?;
+// The reason, and what is wrong with the form.
+fn show_problem(rt: &impl Print, problem: Problem) -> io::Result<()> {
+    let reason = u32::from(Reason::from(problem));
+    print!(rt; " {reason}")?;
+    match problem {
+        Problem::Unfit(Fault::Length) => rt.write_all(b" length"),
+        Problem::Unfit(Fault::At(place)) => print!(rt; " at {place}"),
+        _ => Ok(()),
     }
-    Ok(())
+}
+
+// The number of a rule with a check figure, and a text.
+pub fn show_figure(rt: &impl Print, field: &[u8]) -> io::Result<()> {
+    let (rule, text) = split_word(field);
+    match figure(decimal(rule), text) {
+        Ok(_) => rt.write_all(b" 0"),
+        Err(problem) => show_problem(rt, problem),
+    }
 }

@@ -4,13 +4,11 @@
 mod codes;
 mod escaped;
 mod findings;
-mod numbers;
 mod texts;
 mod words;
 
 pub use codes::show_code;
 pub use escaped::show;
 pub use findings::show_figure;
-pub use numbers::number;
 pub use texts::{show_steps, show_text};
-pub use words::{at_most, behind, decimal, word_end};
+pub use words::{decimal, decimal_up_to, split_word};

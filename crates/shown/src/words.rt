@@ -1,74 +1,43 @@
 // The words of a line, parted by a space, and a decimal number among them.
-ghost use Rattle.std.specs.Prelude.{◌≤◌, length};
+ghost use Rattle.std.specs.Prelude.{◌≡◌, ◌==◌, ◌≤◌};
+ghost use Rattle.std.specs.List.{position, before_first, after_first};
 
-// Where the first word ends: at its space, or at the end.
-pub fn word_end(s: &[u8]) -> usize
-    ensures { result ≤ length s.now }
+// Where the first space stands.
+fn space_in(line: &[u8]) -> Option<usize>
+    ensures { result ≡ position (λ b. b == 32) line.now }
 {
-    let mut i: usize = 0;
-    while i < s.len() {
-        if s[i] == b' ' {
-            return i;
-        }
-        i += 1;
-    }
-    i
+    line.iter().position(|b| *b == b' ')
 }
 
-// Where the rest begins: behind that space, or at the end.
-pub fn behind(s: &[u8]) -> usize
-    ensures { result ≤ length s.now }
+// The first word, and what stands behind its space; the whole line, and nothing, where there is none.
+pub fn split_word(line: &[u8]) -> (&[u8], &[u8])
+    ensures word { result.0.now ≡ before_first (λ b. b == 32) line.now }
+    ensures rest { result.1.now ≡ after_first (λ b. b == 32) line.now }
 {
-    let end = word_end(s);
-    if end < s.len() {
-        return end + 1;
+    match space_in(line) {
+        Some(end) => (&line[..end], &line[end + 1..]),
+        None => (line, &[]),
     }
-    end
 }
 
-fn digit(b: u8) -> u64
-    ensures { result ≤ 9 }
-{
-    if b < 48 {
-        return 0;
+fn digit(b: u8) -> u32 {
+    match b {
+        b'0'..=b'9' => u32::from(b - b'0'),
+        _ => 0,
     }
-    if b <= 57 {
-        return (b - 48) as u64;
-    }
-    0
-}
-
-fn more(high: u64, b: u8) -> u64
-    ensures { result ≤ 4294967295 }
-{
-    if 429496729 < high {
-        return 4294967295;
-    }
-    let n = high * 10 + digit(b);
-    if 4294967295 < n {
-        return 4294967295;
-    }
-    n
 }
 
 // A decimal number; what passes 32 bits counts as the most there is.
-pub fn decimal(s: &[u8]) -> u32 {
-    let mut n: u64 = 0;
-    let mut i: usize = 0;
-    while i < s.len() {
-        n = more(n, s[i]);
-        i += 1;
-    }
-    n as u32
+pub fn decimal(word: &[u8]) -> u32 {
+    word.iter().fold(
+        0,
+        |n: u32, b| n.saturating_mul(10).saturating_add(digit(*b)),
+    )
 }
 
-// A number, or the most that it may be.
-pub fn at_most(n: u32, most: usize) -> usize
+// The same, or the most that it may be.
+pub fn decimal_up_to(word: &[u8], most: usize) -> usize
     ensures { result ≤ most }
 {
-    let n = n as usize;
-    if most < n {
-        return most;
-    }
-    n
+    (decimal(word) as usize).min(most)
 }

@@ -1,9 +1,0 @@
--- `shown::words::word_end` stays within the line.
-use Rattle.std.proofs.Common.{length, ◌-◌, ◌≤◌}
-use Rattle.shown.proofs.words.word_end.Given as goal
-
-abbrev pub invariant-loop-i : goal.invariant-loop-i
-invariant-loop-i l = l.i ≤ length l.s
-
-abbrev pub decreases-loop-i : goal.decreases-loop-i
-decreases-loop-i l = length l.s - l.i
