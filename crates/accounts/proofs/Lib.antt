@@ -1,3 +1,2 @@
--- Laws of the number and its remainder (Remainder), and of what bytes are read as (Value).
+-- Laws of the number and its remainder (Remainder).
 pub mod Remainder
-pub mod Value

@@ -1,5 +1,5 @@
 -- The number that letters and digits spell.
-use Rattle.std.specs.Prelude.{List, [], ◌∷◌, ◌++◌, ℕ, ◌+◌, ◌-◌, ◌%◌, leb, ltb, take, drop}
+use Rattle.std.specs.Prelude.{List, [], ◌∷◌, ◌++◌, ℕ, ◌+◌, ◌-◌, ◌%◌, nat_le, nat_lt, take, drop}
 use Prim.Native.Char.{code}
 use Rattle.ascii.specs.Pick.{pick}
 use Rattle.ascii.specs.Class.{is_digit}
@@ -8,7 +8,7 @@ use Rattle.figures.specs.Completing.{one_digit, two_digits}
 
 -- A and a are read as 10, Z and z as 35
 unfoldable pub letter_value : ℕ → ℕ
-letter_value b = pick (leb b (code "Z")) (b - code "A") (b - code "a") + 10
+letter_value b = pick (nat_le b (code "Z")) (b - code "A") (b - code "a") + 10
 
 -- a digit is read as itself
 unfoldable pub value_of : ℕ → ℕ
@@ -16,7 +16,7 @@ value_of b = pick (is_digit b) (b - code "0") (letter_value b)
 
 -- a value as text: one digit for a digit, two for a letter
 unfoldable pub written : ℕ → List ℕ
-written v = pick (ltb v 10) (one_digit v) (two_digits v)
+written v = pick (nat_lt v 10) (one_digit v) (two_digits v)
 
 -- a text with its letters replaced by digits
 unfoldable pub spell : List ℕ → List ℕ

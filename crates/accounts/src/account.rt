@@ -14,6 +14,7 @@ pub fn iban_text(text: &[u8]) -> Finding
 }
 
 // Its form is the whole test.
+#[tactic(auto, unfolding(crate::specs::Rules::creditor_finding))]
 pub fn creditor_text(text: &[u8]) -> Finding
     ensures { result ≡ creditor_finding text.now }
 {

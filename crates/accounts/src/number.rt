@@ -4,41 +4,36 @@ ghost use Rattle.ascii.specs.Class.{is_plain, all};
 ghost use Rattle.accounts.specs.Spelled.{value_of, spell, remainder};
 ghost use Rattle.accounts.specs.Inner.{after, Steps};
 
+const LEAST_REDUCED: u64 = 100_000_000_000_000_000;
+
 fn reduced(x: u64) -> u64
     ensures { (result % 97 ≡ x % 97) × (result < 100000000000000000) }
 {
-    if x < 100000000000000000 {
-        return x;
-    }
-    x % 97
+    if x < LEAST_REDUCED { x } else { x % 97 }
 }
 
 // What a digit or a letter of either case is read as.
+#[tactic(auto, unfolding(ascii::specs::Class::is_plain, ascii::specs::Class::is_letter, ascii::specs::Class::is_digit, ascii::specs::Class::within, ascii::specs::Pick::pick, crate::specs::Spelled::value_of, crate::specs::Spelled::letter_value))]
 fn value(b: u8) -> u64
     requires { is_plain b ≡ true }
     ensures { (result ≡ value_of b) × (result < 36) }
 {
-    let w = b as u64;
-    if w <= 57 {
-        return w - 48;
+    match b {
+        ..=b'9' => u64::from(b - b'0'),
+        ..=b'Z' => u64::from(b - b'A') + 10,
+        _ => u64::from(b - b'a') + 10,
     }
-    if w <= 90 {
-        return w - 55;
-    }
-    w - 87
 }
 
 // One byte more: a value below 10 is one decimal digit, any other two.
+#[tactic(auto, using(crate::proofs::Remainder::step_one, crate::proofs::Remainder::step_two))]
 fn step(acc: u64, b: u8) -> u64
     requires { is_plain b ≡ true }
     ensures { Steps acc b result }
 {
     let x = reduced(acc);
     let v = value(b);
-    if v < 10 {
-        return x * 10 + v;
-    }
-    x * 100 + v
+    if v < 10 { x * 10 + v } else { x * 100 + v }
 }
 
 // A number that leaves what the digits of `start`, followed by those of the text, leave.
@@ -47,10 +42,8 @@ fn leave(start: u64, text: &[u8]) -> u64
     ensures { result % 97 ≡ after start (spell text.now) }
 {
     let mut acc = start;
-    let mut i: usize = 0;
-    while i < text.len() {
-        acc = step(acc, text[i]);
-        i += 1;
+    for b in text {
+        acc = step(acc, *b);
     }
     acc
 }
@@ -60,7 +53,6 @@ pub(crate) fn remainder(text: &[u8], from: usize) -> u64
     requires { (4 ≤ from) × (from ≤ length text.now) × (all is_plain text.now ≡ true) }
     ensures { result ≡ remainder from text.now }
 {
-    let n = text.len();
-    let a = leave(0, &text[from..n]);
-    leave(a, &text[0..4]) % 97
+    let a = leave(0, &text[from..]);
+    leave(a, &text[..4]) % 97
 }
