@@ -1,5 +1,5 @@
 -- A text as lines, and their answers.
-use Rattle.std.specs.Prelude.{Bool, true, false, List, [], ◌∷◌, ℕ, ◌+◌, min, eqb, length}
+use Rattle.std.specs.Prelude.{Bool, true, false, List, [], ◌∷◌, ℕ, ◌+◌, ◌==◌, min, length}
 use Rattle.ascii.specs.Pick.{pick}
 use Rattle.ascii.specs.Written.{newline}
 use Rattle.answer.specs.declared.record.Answer.{Answer}
@@ -13,7 +13,7 @@ in_front counts b (l ∷ ls) = (b ∷ l) ∷ ls
 -- the lines of a text, without their newlines
 unfoldable pub split : Bool → List ℕ → List (List ℕ)
 split counts [] = []
-split counts (b ∷ s) = pick (eqb b newline) ([] ∷ split counts s) (in_front counts b (split counts s))
+split counts (b ∷ s) = pick (b == newline) ([] ∷ split counts s) (in_front counts b (split counts s))
 
 -- a last line without newline counts if it has a byte
 abbrev pub lines_of : List ℕ → List (List ℕ)

@@ -4,5 +4,5 @@
 mod line;
 mod split;
 
-pub use line::{answer_line, least};
+pub use line::{LINE_BYTES, answer_line};
 pub use split::line_len;
