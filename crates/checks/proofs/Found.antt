@@ -1,39 +1,25 @@
--- What is found in a content, by what the code read. Assumes nothing.
-use mathlib.Core.Path.{◌≡◌, ap, ◌∙◌}
-use mathlib.Core.Bool.{true, false}
+-- What is found in a content, by the text of it that stands in an area. Assumes nothing.
+use mathlib.Core.Path.{◌≡◌, sym, ap, ◌∙◌}
 use mathlib.Core.List.{List}
 use Prim.Native.Nat.{ℕ}
-use Rattle.ascii.specs.Pick.{pick}
-use Rattle.answer.specs.Answers.{none}
+use lib.ListN.{take}
+use Rattle.std.specs.Prelude.{Result}
+use Rattle.answer.specs.declared.reason.Reason.{Reason}
 use Rattle.text.specs.declared.area.Text.{Text}
-use Rattle.text.specs.declared.area.Kept.{Kept}
-use Rattle.text.specs.declared.reading.Reading.{Reading}
 use Rattle.text.specs.declared.reading.Reading.TheVariants.{Normalised, Stripped}
-use Rattle.text.specs.Answer.{readable_of, normal_text, stripped_text, text_in, text_of, text_by}
+use Rattle.text.specs.Answer.{normal_text, stripped_text, text_in, text_of, without_len, len_of}
 use Rattle.text.proofs.Laws.{reason_normal, reason_stripped}
-use Rattle.figures.specs.declared.finding.Finding.{Finding}
-use Rattle.figures.specs.declared.finding.Finding.TheVariants.{Unreadable}
-use Rattle.checks.specs.Reading.{found_in}
+use Rattle.figures.specs.Findings.{Finding}
+use Rattle.checks.specs.Reading.{when_read, found_in}
 
--- a content that can be read, and one that can't
-module _ (how : Reading) (judge : List ℕ → Finding) (s : List ℕ) where
-  pub found_read : none (readable_of s) ≡ true → judge (text_by how s) ≡ found_in how judge s
-  unfolding found_in pick
-  found_read e = rw e
-
-  pub found_unread : none (readable_of s) ≡ false → Unreadable (readable_of s) ≡ found_in how judge s
-  unfolding found_in pick
-  found_unread e = rw e
-
--- of an area, where it holds a text that could be read
 abbrev pub in_area : (List ℕ → Finding) → Text → Finding
-in_area judge t = pick (none t.reason) (judge (text_of t)) (Unreadable t.reason)
+in_area judge t = when_read (without_len t.kept) (judge (text_of t))
 
-module _ (judge : List ℕ → Finding) (k : Kept) (area s : List ℕ) where
-  pub found_normal : text_in k area ≡ normal_text s → in_area judge (text_in k area) ≡ found_in Normalised judge s
+module _ (judge : List ℕ → Finding) (k : Result ℕ Reason) (area s : List ℕ) where
+  pub found_normal : text_in k area ≡ normal_text s → found_in Normalised judge s ≡ when_read (without_len k) (judge (take (len_of k) area))
   unfolding found_in
-  found_normal e = ap (in_area judge) e ∙ rw (reason_normal s)
+  found_normal e = sym (ap (in_area judge) e ∙ rw (reason_normal s))
 
-  pub found_stripped : text_in k area ≡ stripped_text s → in_area judge (text_in k area) ≡ found_in Stripped judge s
+  pub found_stripped : text_in k area ≡ stripped_text s → found_in Stripped judge s ≡ when_read (without_len k) (judge (take (len_of k) area))
   unfolding found_in
-  found_stripped e = ap (in_area judge) e ∙ rw (reason_stripped s)
+  found_stripped e = sym (ap (in_area judge) e ∙ rw (reason_stripped s))

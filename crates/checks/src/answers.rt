@@ -2,58 +2,60 @@
 ghost use Rattle.std.specs.Prelude.{◌≡◌};
 ghost use Rattle.checks.specs.Check.{answer_by, check_of, iban_answer, creditor_answer, eas_answer};
 
-use super::judge::{Judge, answer_to};
-use super::reading::{answer_by, stripped};
-use answer::{Answer, Reason, Severity, refused};
-use rules::{Chosen, Rule};
+use super::judge::{Creditor, Iban, StrictGln};
+use super::reading::answer_by;
+use answer::{Answer, no_rule, refused};
+use ascii::same_bytes;
+use rules::{Rule, rule_for};
+use text::Reading;
 
 // The answer of a rule to a content.
+#[tactic(auto, unfolding(crate::specs::Check::answer_by))]
 pub fn check_by(rule: Rule, content: &[u8]) -> Answer
     ensures { result ≡ answer_by rule content.now }
 {
     answer_by(
         rule.reading(),
-        Judge::ByRule(rule),
+        rule,
         rule.number(),
-        rule.severity(),
+        Some(rule.severity()),
         content,
     )
 }
 
 // The field check: any scheme, any term, any bytes.
+#[tactic(auto, unfolding(crate::specs::Check::check_of))]
 pub fn check(scheme: &[u8], term: u32, content: &[u8]) -> Answer
     ensures { result ≡ check_of scheme.now term content.now }
 {
-    match rules::rule_for(scheme, term) {
-        Chosen::By(rule) => check_by(rule, content),
-        Chosen::NoRule => answer::no_rule(),
-        Chosen::NoTerm => refused(0, Severity::NoSeverity, Reason::Term),
+    match rule_for(scheme, term) {
+        Ok(Some(rule)) => check_by(rule, content),
+        Ok(None) => no_rule(),
+        Err(why) => refused(0, None, why),
     }
 }
 
-// Straight to the reading: with one caller, the check of a field, `answer_by` goes into it.
+#[tactic(auto, unfolding(crate::specs::Check::iban_answer))]
 pub fn is_valid_iban_checksum(content: &[u8]) -> Answer
     ensures { result ≡ iban_answer content.now }
 {
-    stripped(Judge::Iban, 0, Severity::NoSeverity, content)
+    answer_by(Reading::Stripped, Iban, 0, None, content)
 }
 
+#[tactic(auto, unfolding(crate::specs::Check::creditor_answer))]
 pub fn is_valid_creditor_identifier(content: &[u8]) -> Answer
     ensures { result ≡ creditor_answer content.now }
 {
-    stripped(Judge::Creditor, 0, Severity::NoSeverity, content)
+    answer_by(Reading::Stripped, Creditor, 0, None, content)
 }
 
 // The answer to a value under a scheme. The content of any other scheme is not looked at; that of this one is read as it stands.
+#[tactic(auto, unfolding(crate::specs::Check::eas_answer, ascii::specs::Pick::pick))]
 pub fn eas_value(scheme: &[u8], content: &[u8]) -> Answer
     ensures { result ≡ eas_answer scheme.now content.now }
 {
-    if ascii::same_bytes(scheme, b"0088") {
-        let why = text::readable(content);
-        if why.number() == 0 {
-            return answer_to(0, Severity::NoSeverity, guard::gln_problem(content));
-        }
-        return refused(0, Severity::NoSeverity, why);
+    if same_bytes(scheme, b"0088") {
+        return answer_by(Reading::AsItStands, StrictGln, 0, None, content);
     }
-    answer::no_rule()
+    no_rule()
 }

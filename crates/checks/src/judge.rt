@@ -1,49 +1,71 @@
-// What judges a text, and the answer to a finding.
-ghost use Rattle.std.specs.Prelude.{◌≡◌};
+// Who judges a text that was read, and the answer to what is found.
+ghost use Rattle.std.specs.Prelude.{◌≡◌, List, ℕ};
+ghost use Rattle.figures.specs.Findings.{Finding};
 ghost use Rattle.rules.specs.Finding.{finding};
+ghost use Rattle.accounts.specs.Rules.{iban_finding, creditor_finding};
+ghost use Rattle.guard.specs.Gln.{strict_gln};
 ghost use Rattle.checks.specs.Reading.{answered};
-ghost use Rattle.checks.specs.Check.{finding_by};
 
-use answer::{Answer, Reason, Severity, refused};
-use figures::Finding;
+use answer::{Answer, Reason, Severity, accepted, refused, unread};
+use figures::{Finding, Passed};
 use rules::Rule;
 
-#[derive(Clone, Copy)]
-pub enum Judge {
-    ByRule(Rule),
-    Iban,
-    Creditor,
+// A rule of a field, or one of those without a number.
+pub trait Judge {
+    // what is found in a text
+    ghost finds: { Self → List ℕ → Finding };
+
+    fn finding(self, text: &[u8]) -> Finding
+        ensures { result ≡ finds self text.now };
 }
 
-pub(crate) fn answer_to(number: u32, severity: Severity, found: Finding) -> Answer
-    ensures { result ≡ answered number severity found }
-{
-    match found {
-        Finding::Good => answer::accepted(number, severity),
-        Finding::Through => answer::unread(number, severity),
-        Finding::Zero => refused(number, severity, Reason::Zero),
-        Finding::Wrong => refused(number, severity, Reason::Check),
-        Finding::Unfit(_) => refused(number, severity, Reason::Form),
-        Finding::Unreadable(why) => refused(number, severity, why),
+impl Judge for Rule {
+    ghost finds = { finding };
+
+    fn finding(self, text: &[u8]) -> Finding {
+        rules::finding(self, text)
     }
 }
 
-// The answer of a rule to a text that was read. It has every rule in it, so that a finding goes into no memory; `&text[0..n]` and not `text`,
-// so that its address and length come in registers.
-pub(crate) fn answer_rule(rule: Rule, number: u32, severity: Severity, text: &[u8]) -> Answer
-    ensures { result ≡ answered number severity (finding rule text.now) }
-{
-    let n = text.len();
-    answer_to(number, severity, rules::finding(rule, &text[0..n]))
+#[derive(Clone, Copy)]
+pub struct Iban;
+
+impl Judge for Iban {
+    ghost finds = { λ _ text. iban_finding text };
+
+    fn finding(self, text: &[u8]) -> Finding {
+        accounts::iban_text(text)
+    }
 }
 
-// The answer of any judge.
-pub(crate) fn answer_text(judge: Judge, number: u32, severity: Severity, text: &[u8]) -> Answer
-    ensures { result ≡ answered number severity (finding_by judge text.now) }
+#[derive(Clone, Copy)]
+pub struct Creditor;
+
+impl Judge for Creditor {
+    ghost finds = { λ _ text. creditor_finding text };
+
+    fn finding(self, text: &[u8]) -> Finding {
+        accounts::creditor_text(text)
+    }
+}
+
+#[derive(Clone, Copy)]
+pub struct StrictGln;
+
+impl Judge for StrictGln {
+    ghost finds = { λ _ text. strict_gln text };
+
+    fn finding(self, text: &[u8]) -> Finding {
+        guard::gln_problem(text)
+    }
+}
+
+pub(crate) fn answer_to(number: u32, severity: Option<Severity>, found: Finding) -> Answer
+    ensures { result ≡ answered number severity found }
 {
-    match judge {
-        Judge::ByRule(rule) => answer_rule(rule, number, severity, text),
-        Judge::Iban => answer_to(number, severity, accounts::iban_text(text)),
-        Judge::Creditor => answer_to(number, severity, accounts::creditor_text(text)),
+    match found {
+        Ok(Passed::Good) => accepted(number, severity),
+        Ok(Passed::Through) => unread(number, severity),
+        Err(problem) => refused(number, severity, Reason::from(problem)),
     }
 }

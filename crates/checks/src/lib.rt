@@ -8,5 +8,5 @@ mod reading;
 pub use answers::{
     check, check_by, eas_value, is_valid_creditor_identifier, is_valid_iban_checksum,
 };
-pub use judge::Judge;
+pub use judge::{Creditor, Iban, Judge, StrictGln};
 pub use reading::answer_by;

@@ -1,71 +1,57 @@
-// From a content, read in one of three ways, to the answer.
-ghost use Rattle.std.specs.Prelude.{◌≡◌, take};
-ghost use Rattle.ascii.specs.Pick.{pick};
-ghost use Rattle.answer.specs.Answers.{none};
+// From a content, read in one of three ways, to what is found in it and the answer.
+ghost use Rattle.std.specs.Prelude.{◌≡◌};
 ghost use Rattle.text.specs.declared.reading.Reading.TheVariants.{AsItStands, Normalised, Stripped};
-ghost use Rattle.figures.specs.declared.finding.Finding.TheVariants.{Unreadable};
 ghost use Rattle.checks.specs.Reading.{found_in, answered};
-ghost use Rattle.checks.specs.Check.{finding_by};
 
-use super::judge::{Judge, answer_rule, answer_text};
-use answer::{Answer, Severity, refused};
-use text::{Kept, Reading};
+use super::judge::{Judge, answer_to};
+use answer::{Answer, Severity};
+use figures::{Finding, Problem};
+use text::Reading;
 
-fn as_it_stands(judge: Judge, number: u32, severity: Severity, content: &[u8]) -> Answer
-    ensures { result ≡ answered number severity (found_in AsItStands (finding_by judge) content.now) }
+#[tactic(auto, unfolding(crate::specs::Reading::found_in))]
+fn as_it_stands<J: Judge + Copy>(judge: J, content: &[u8]) -> Finding
+    ensures { result ≡ found_in AsItStands (J.finds judge) content.now }
 {
-    let why = text::readable(content);
-    if why.number() == 0 {
-        // a second caller: with one the compiler would put `answer_rule` into `answer_text`, and an account's check would go through it
-        if let Judge::ByRule(rule) = judge {
-            return answer_rule(rule, number, severity, content);
-        }
-        return answer_text(judge, number, severity, content);
-    }
-    refused(number, severity, why)
+    text::readable(content).map_err(Problem::Unreadable)?;
+    judge.finding(content)
 }
 
-// The answer to a text that stands in its area, where it could be read.
-fn in_area(judge: Judge, number: u32, severity: Severity, kept: Kept, area: &[u8; 1024]) -> Answer
-    ensures { result ≡ answered number severity (pick (none kept.reason) (finding_by judge (take kept.len area.now)) (Unreadable kept.reason)) }
-{
-    let why = kept.reason;
-    if why.number() == 0 {
-        let n = kept.len;
-        return answer_text(judge, number, severity, text::first_bytes(area, n));
-    }
-    refused(number, severity, why)
-}
-
-fn normalised(judge: Judge, number: u32, severity: Severity, content: &[u8]) -> Answer
-    ensures { result ≡ answered number severity (found_in Normalised (finding_by judge) content.now) }
+// This and the next differ in the reader that fills the area; a reader passed as a closure would need a contract as long as both.
+fn normalised<J: Judge + Copy>(judge: J, content: &[u8]) -> Finding
+    ensures { result ≡ found_in Normalised (J.finds judge) content.now }
 {
     let mut area = [0u8; 1024];
-    let kept = text::normalize_into(content, &mut area);
-    in_area(judge, number, severity, kept, &area)
+    let n = text::normalize_into(content, &mut area).map_err(Problem::Unreadable)?;
+    judge.finding(text::first_bytes(&area, n))
 }
 
-pub(crate) fn stripped(judge: Judge, number: u32, severity: Severity, content: &[u8]) -> Answer
-    ensures { result ≡ answered number severity (found_in Stripped (finding_by judge) content.now) }
+fn stripped<J: Judge + Copy>(judge: J, content: &[u8]) -> Finding
+    ensures { result ≡ found_in Stripped (J.finds judge) content.now }
 {
     let mut area = [0u8; 1024];
-    let kept = text::strip_into(content, &mut area);
-    in_area(judge, number, severity, kept, &area)
+    let n = text::strip_into(content, &mut area).map_err(Problem::Unreadable)?;
+    judge.finding(text::first_bytes(&area, n))
+}
+
+fn found_in<J: Judge + Copy>(how: Reading, judge: J, content: &[u8]) -> Finding
+    ensures { result ≡ found_in how (J.finds judge) content.now }
+{
+    match how {
+        Reading::AsItStands => as_it_stands(judge, content),
+        Reading::Normalised => normalised(judge, content),
+        Reading::Stripped => stripped(judge, content),
+    }
 }
 
 // The one way: how a content is read, who judges its text, and the number and the severity that the answer carries.
-pub fn answer_by(
+pub fn answer_by<J: Judge + Copy>(
     how: Reading,
-    judge: Judge,
+    judge: J,
     number: u32,
-    severity: Severity,
+    severity: Option<Severity>,
     content: &[u8],
 ) -> Answer
-    ensures { result ≡ answered number severity (found_in how (finding_by judge) content.now) }
+    ensures { result ≡ answered number severity (found_in how (J.finds judge) content.now) }
 {
-    match how {
-        Reading::AsItStands => as_it_stands(judge, number, severity, content),
-        Reading::Normalised => normalised(judge, number, severity, content),
-        Reading::Stripped => stripped(judge, number, severity, content),
-    }
+    answer_to(number, severity, found_in(how, judge, content))
 }

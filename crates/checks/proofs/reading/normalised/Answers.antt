@@ -1,8 +1,9 @@
--- `checks::reading::normalised` meets its contract.
-use mathlib.Core.Path.{ap, ◌∙◌}
-use Rattle.checks.specs.Reading.{answered}
+use Rattle.std.proofs.Common.{rules}
 use Rattle.checks.proofs.Found.{found_normal}
 use Rattle.checks.proofs.reading.normalised.Goals as goal
 
+pub returns-in_err-n : goal.returns-in_err-n
+returns-in_err-n g c = rw (found_normal (g.J.Judge.finds c.args.judge) _ _ _ c.normalize_into.ensures) (search rules)
+
 pub returns : goal.returns
-returns c = c.in_area.ensures ∙ ap (answered _ _) (found_normal _ _ _ _ c.normalize_into-kept.ensures)
+returns g c = rw (found_normal (g.J.Judge.finds c.args.judge) _ _ _ c.normalize_into.ensures) (search rules)

@@ -1,8 +1,9 @@
--- `checks::reading::stripped` meets its contract.
-use mathlib.Core.Path.{ap, ◌∙◌}
-use Rattle.checks.specs.Reading.{answered}
+use Rattle.std.proofs.Common.{rules}
 use Rattle.checks.proofs.Found.{found_stripped}
 use Rattle.checks.proofs.reading.stripped.Goals as goal
 
+pub returns-in_err-n : goal.returns-in_err-n
+returns-in_err-n g c = rw (found_stripped (g.J.Judge.finds c.args.judge) _ _ _ c.strip_into.ensures) (search rules)
+
 pub returns : goal.returns
-returns c = c.in_area.ensures ∙ ap (answered _ _) (found_stripped _ _ _ _ c.strip_into-kept.ensures)
+returns g c = rw (found_stripped (g.J.Judge.finds c.args.judge) _ _ _ c.strip_into.ensures) (search rules)
