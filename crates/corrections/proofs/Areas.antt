@@ -60,14 +60,15 @@ each_rows (suc m) n f h = rows_append (each m f) (f m) n (each_rows m n f (λ i 
 
 -- ---- rows in an area
 
--- a row t of n entries, written into the part of the area that was lent for it, stands at `at` and ends at e
-pub put_row : (n : ℕ) (a : List ℕ) (at k e : ℕ) (row t : List ℕ) (rows : List (List ℕ)) → row ≡ t → rows ≡ t ∷ [] → length t ≡ n → e ≡ at + n → k ≡ n
-    → Put n a at (joined rows) e (take at a ++ (row ++ drop k (drop at a)))
-unfolding joined put
-put_row n a at k e row t rows q r l x y =
-    let b : joined rows ≡ t = rw (r, append-nil t) in
-    let z : k ≡ length t = y ∙ sym l in
-    record { now = rw (b, q, z, drop-drop (length t) at a); ends = rw (b, l) x; few = rw (b, l) (omega arith) }
+-- a part that was lent at `at`, and came back as t
+pub put_slot : (a : List ℕ) (at k : ℕ) (row t : List ℕ) → row ≡ t → k ≡ length t → take at a ++ (row ++ drop k (drop at a)) ≡ put a at t
+unfolding put
+put_slot a at k row t q z = rw (q, z, drop-drop (length t) at a)
+
+-- one row
+pub put_one_row : {n : ℕ} {a : List ℕ} {at : ℕ} {row : List ℕ} {e : ℕ} {x : List ℕ} (rows : List (List ℕ)) (t : List ℕ) → rows ≡ t ∷ [] → row ≡ t → Put n a at row e x → Put n a at (joined rows) e x
+unfolding joined
+put_one_row rows t r q p = rw (r, append-nil t, ← q) p
 
 -- no row
 pub put_no_row : (n : ℕ) (a : List ℕ) (at : ℕ) (rows : List (List ℕ)) → rows ≡ [] → Put n a at (joined rows) at a

@@ -2,6 +2,7 @@
 use mathlib.Core.Path.{◌≡◌, refl, sym, ap, ◌∙◌}
 use mathlib.Core.Bool.{Bool, true, false, not, ◌&&◌}
 use mathlib.Core.List.{List, [], ◌∷◌, ◌++◌}
+use Rattle.std.specs.Prelude.{Some, None}
 use Prim.Native.Nat.{ℕ, ◌+◌, ◌≤◌}
 use mir.Val.{bool_byte}
 use native.Mathlib.Omega.{arith}
@@ -11,8 +12,7 @@ use Rattle.ascii.specs.Pick.{pick}
 use Rattle.ascii.specs.Class.{is_digit, all}
 use Rattle.ascii.proofs.Tests.{false_true}
 use Rattle.ascii.proofs.Class.{all_append, all_cons, all_nil, digit_inside}
-use Rattle.answer.specs.declared.reason.Reason.TheVariants.{NoReason, Zero, NoFigure}
-use Rattle.answer.specs.Answers.{none}
+use Rattle.answer.specs.declared.reason.Reason.TheVariants.{Zero, NoFigure}
 use Rattle.forms.proofs.OfDigits.{Digits}
 use Rattle.figures.specs.Figures.{total_by, figure41, belgian_pair}
 use Rattle.figures.specs.Rules.{all_zero}
@@ -77,13 +77,13 @@ check_small Belgium t = omega arith
 check_small Sweden t = omega arith
 check_small Australia t = omega arith
 
-not_ten : (z t : Bool) → none (pick z Zero (pick t NoFigure NoReason)) ≡ true → t ≡ false
-unfolding none pick
-not_ten true t e = false_true e
-not_ten false true e = false_true e
+not_ten : (z t : Bool) → pick z (Some Zero) (pick t (Some NoFigure) None) ≡ None → t ≡ false
+unfolding pick
+not_ten true t e = cc
+not_ten false true e = cc
 not_ten false false e = refl
 
-pub digit_small : (k : Five) (t : ℕ) → (row k).pair ≡ false → none (why_none (row k).gaps t (check k t)) ≡ true → check k t ≤ 9
+pub digit_small : (k : Five) (t : ℕ) → (row k).pair ≡ false → why_none (row k).gaps t (check k t) ≡ None → check k t ≤ 9
 unfolding why_none pick
 digit_small Gln t p e = omega arith
 digit_small Norway t p e = omega (arith, eqb-false (check Norway t) 10 (not_ten (eqb t 0) (eqb (check Norway t) 10) e))

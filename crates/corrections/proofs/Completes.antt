@@ -1,11 +1,11 @@
 -- A completed number is accepted, by one figure alone; and a body is refused exactly when no figure completes it. Assumes nothing.
 use mathlib.Core.Path.{◌≡◌, refl, sym, ◌∙◌}
 use mathlib.Core.List.{List}
+use Rattle.std.specs.Prelude.{None}
 use Prim.Native.Nat.{ℕ}
 use native.Mathlib.Omega.{arith}
 use Rattle.ascii.specs.Pick.{pick}
 use Rattle.ascii.proofs.Tests.{false_true}
-use Rattle.answer.specs.declared.reason.Reason.TheVariants.{NoReason}
 use Rattle.forms.proofs.OfDigits.{Digits}
 use Rattle.figures.specs.Completing.{Completes}
 use Rattle.figures.proofs.Completing.{gln_completes, mod11_completes, mod11_none, mod97_completes, se_orgnr_completes, abn_completes}
@@ -20,7 +20,7 @@ abbrev pub Completed : Five → List ℕ → Type 0
 Completed k body = Completes (accepts (rule_of k)) (number_with k body) (row k).lowest (figure_for k body)
 
 module _ (body : List ℕ) where
-  pub completed : (k : Five) → Digits (row k).shortest (row k).longest body → no_figure k body ≡ NoReason → Completed k body
+  pub completed : (k : Five) → Digits (row k).shortest (row k).longest body → no_figure k body ≡ None → Completed k body
   unfolding accepts pick
   completed Gln d e = gln_completes body d.digit (omega (arith, d.most))
   completed Norway d e = mod11_completes body d.digit (omega (arith, d.least, d.most)) e
@@ -28,7 +28,7 @@ module _ (body : List ℕ) where
   completed Sweden d e = se_orgnr_completes body d.digit (omega (arith, d.least, d.most))
   completed Australia d e = abn_completes body d.digit (omega (arith, d.least, d.most))
 
-  always : (k : Five) → Digits (row k).shortest (row k).longest body → no_figure k body ≡ NoReason → NoneCompletes k body
+  always : (k : Five) → Digits (row k).shortest (row k).longest body → no_figure k body ≡ None → NoneCompletes k body
   always k d e = (λ ne. absurd (ne e), λ none q. false_true (sym (none (figure_for k body) refl) ∙ (completed k d e).accepted))
 
   pub none_completes : (k : Five) → Digits (row k).shortest (row k).longest body → NoneCompletes k body

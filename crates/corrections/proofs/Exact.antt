@@ -5,21 +5,21 @@ use mathlib.Core.List.{List, [], ◌∷◌}
 use Prim.Native.Nat.{ℕ, ◌+◌, ◌-◌, ◌*◌, ◌/◌, ◌%◌, ◌^◌, ◌≤◌, ◌<◌}
 use native.Mathlib.Nat.{mul_assoc}
 use native.Mathlib.Omega.{arith}
-use borrow.Author.Tests.{eqb-true}
+use borrow.Author.Tests.{eqb-true, leb-true}
 use mir.Val.{bool_byte}
-use lib.Dec.{eqb}
+use lib.Dec.{eqb, leb}
 use lib.IntN.{nat_abs, sub_ℕ}
 use lib.ListN.{length, get_or, set, take, drop, length-set, length-take, length-drop, take-append-drop}
+use Rattle.std.specs.Prelude.{Result, Ok, ⊤}
 use Rattle.ascii.specs.Class.{is_digit, all}
 use Rattle.ascii.proofs.Tests.{eqb_iff, below_at}
-use Rattle.ascii.proofs.Class.{digit_bounds, digit_inside, all_first, all_rest, all_drop}
+use Rattle.ascii.proofs.Class.{digit_bounds, digit_inside, all_at, all_first, all_rest, all_drop}
 use Rattle.forms.specs.Form.{fault_of}
 use Rattle.forms.specs.Table.{digits}
 use Rattle.forms.specs.declared.form.Fault.{Fault}
-use Rattle.forms.specs.declared.form.Fault.TheVariants.{Fits}
 use Rattle.forms.proofs.OfDigits.{Digits, digits_fit, fit_digits}
 use Rattle.figures.specs.Total.{total, digit_at, number}
-use Rattle.figures.specs.Figures.{weight_at, counted, adds, total_by, right, figure40, figure41, belgian_pair, luhn, figure50}
+use Rattle.figures.specs.Figures.{weight_at, counted, total_by, right, figure40, figure41, belgian_pair, luhn, figure50}
 use Rattle.figures.specs.Inner.{figure_by, weight_by, adds_from, summed, summed_by, total_passes}
 use Rattle.figures.specs.declared.kind.Kind.{Kind}
 use Rattle.figures.specs.declared.kind.Kind.TheVariants.{Mod97}
@@ -29,7 +29,7 @@ use Rattle.figures.specs.Changes.{exchanged}
 use Rattle.figures.proofs.Judging.{good_by}
 use Rattle.figures.proofs.Digits.{all_set, by_powers, same_total}
 use Rattle.figures.proofs.Steps.{within_table}
-use Rattle.figures.proofs.Adding.{adds_zero, total_small, placed_length, placed_at, with_zero, with_pending, sum_formed, sum_same}
+use Rattle.figures.proofs.Adding.{adds_zero, share_small, total_small, placed_length, placed_at, with_zero, with_pending, sum_formed, sum_same}
 use Rattle.figures.proofs.Zeros.{zeros41}
 use Rattle.figures.proofs.Shift.{total_set, total_exchanged}
 use Rattle.figures.proofs.Links.{join, total_reduced, leaves_ten, ten_leaves}
@@ -39,7 +39,7 @@ use Rattle.corrections.specs.declared.five.Five.{Five}
 use Rattle.corrections.specs.declared.five.Five.TheVariants.{Gln, Norway, Belgium, Sweden, Australia}
 use Rattle.corrections.specs.Five.{row, rule_of}
 use Rattle.corrections.specs.Corrections.{replaced}
-use Rattle.corrections.specs.Inner.{adds_by, places_of, Summed}
+use Rattle.corrections.specs.Inner.{adds_by, sharing, places_of, Summed}
 
 -- ---- 0208: the number itself, and its first eight and last two digits
 
@@ -79,7 +79,7 @@ apart t x y e l =
 
 -- ---- each rule of a number of the right form
 
-zero_first : {y : Fault} (z x : Bool) → y ≡ Fits → is_good (judged_zero y z x) ≡ not z && x
+zero_first : {y : Result ⊤ Fault} (z x : Bool) → y ≡ Ok tt → is_good (judged_zero y z x) ≡ not z && x
 zero_first true x h = rw h
 zero_first false x h = rw h (good_by x refl)
 
@@ -115,10 +115,6 @@ lengths Australia = (omega arith, omega arith)
 
 -- ---- the tests that the code makes
 
--- what the digit d adds with j digits to its right
-abbrev pub sharing : Five → ℕ → ℕ → ℕ
-sharing k j d = adds (adds_by k).fold (adds_by k).weights j d
-
 -- the weights of a number's places are its figure's
 weight_is : (k : Five) (j : ℕ) → j < (row k).most → weight_by (row k).figure j ≡ weight_at (adds_by k).weights j
 weight_is Gln j l = refl
@@ -138,19 +134,39 @@ shared k f ws j d g e q h =
     ∙ ap (λ z. counted (figure_by z).fold (get_or ws j 0 * d)) g
     ∙ ap (λ x. counted (adds_by k).fold (x * d)) (ap (λ l. get_or l j 0) e ∙ place_is k j q)
 
-pub places_20 : (k : Five) {ws : List ℕ} → ws ≡ places_of k → length ws ≡ 20
-places_20 k e = ap length e ∙ placed_length 20 (weight_by (row k).figure)
+places_20 : (k : Five) → length (places_of k) ≡ 20
+places_20 k = placed_length 20 (weight_by (row k).figure)
+
+-- a weight is below 2 ^ 32, so that what a digit adds is small
+weight_small : (k : Five) (j : ℕ) → j < 20 → weight_at (adds_by k).weights j ≤ 4294967295
+weight_small Gln j l = leb-true _ _ (below_at 20 (λ j. leb (weight_at (adds_by Gln).weights j) 4294967295) refl j l)
+weight_small Norway j l = leb-true _ _ (below_at 20 (λ j. leb (weight_at (adds_by Norway).weights j) 4294967295) refl j l)
+weight_small Belgium j l = leb-true _ _ (below_at 20 (λ j. leb (weight_at (adds_by Belgium).weights j) 4294967295) refl j l)
+weight_small Sweden j l = leb-true _ _ (below_at 20 (λ j. leb (weight_at (adds_by Sweden).weights j) 4294967295) refl j l)
+weight_small Australia j l = leb-true _ _ (below_at 20 (λ j. leb (weight_at (adds_by Australia).weights j) 4294967295) refl j l)
+
+sharing_small : (k : Five) (j d : ℕ) → j < 20 → d ≤ 9 → sharing k j d ≤ 38654705664
+sharing_small k j d l h =
+    let w = weight_small k j l in
+    share_small (adds_by k).fold (weight_at (adds_by k).weights j) d (omega arith) h
 
 -- the sum that the code asks for is that of the figure
 pub sum_by_figure : (k : Five) (p : Bool) (a b : ℕ) (s : List ℕ) → b + bool_byte p ≤ (row k).most
     → summed_by (adds_by k).fold (places_of k) (digits a b) (bool_byte p) s ≡ summed (fault_of (digits a b) s) (total_by (adds_by k) (with_zero p s))
 sum_by_figure k p a b s h =
-    sum_formed (adds_by k).fold (places_of k) (digits a b) (bool_byte p) s (omega (arith, places_20 k refl, (lengths k).1))
+    sum_formed (adds_by k).fold (places_of k) (digits a b) (bool_byte p) s (omega (arith, places_20 k, (lengths k).1))
     ∙ sum_same (fault_of (digits a b) s)
     (λ e.
     same_total (adds_from (bool_byte p) (adds_by k).fold (places_of k)) (λ j d. sharing k (j + bool_byte p) d) s
     (λ j d l. ap (λ x. counted (adds_by k).fold (x * d)) (place_is k (j + bool_byte p) (omega (arith, (digits_fit a b s e).most))))
     ∙ with_pending (sharing k) s p (adds_zero (adds_by k).fold (adds_by k).weights 0))
+
+-- what two neighbours give before and after their digits are exchanged
+abbrev pub before : Five → List ℕ → ℕ → ℕ
+before k s i = sharing k (length s - 1 - i) (digit_at s i) + sharing k (length s - 1 - (i + 1)) (digit_at s (i + 1))
+
+abbrev pub after : Five → List ℕ → ℕ → ℕ
+after k s i = sharing k (length s - 1 - i) (digit_at s (i + 1)) + sharing k (length s - 1 - (i + 1)) (digit_at s i)
 
 module _ (k : Five) (s : List ℕ) (sum : ℕ) (p : Summed k s sum) where
   pub number_digits : Digits (row k).least (row k).most s
@@ -159,10 +175,19 @@ module _ (k : Five) (s : List ℕ) (sum : ℕ) (p : Summed k s sum) where
   pub short : (length s ≤ (row k).most) × (length s ≤ 20)
   short = (number_digits.most, omega (arith, number_digits.most, (lengths k).1))
 
+  pub number_long : 1 ≤ length s
+  number_long = omega (arith, number_digits.least, (lengths k).0)
+
   pub sum_small : sum ≤ 773094113280
   sum_small =
       let d = number_digits in
       omega (arith, total_small (row k).figure s d.digit, d.most, (lengths k).1, p.sum_is)
+
+  pub digit_bound : (i : ℕ) → i < length s → (48 ≤ get_or s i 0) × (digit_at s i ≤ 9)
+  digit_bound i h = let d = digit_bounds (get_or s i 0) (all_at is_digit s i number_digits.digit h) in (omega arith, omega arith)
+
+  pub share_bound : (i d : ℕ) → i < length s → d ≤ 9 → sharing k (length s - 1 - i) d ≤ 38654705664
+  share_bound i d h l = sharing_small k (length s - 1 - i) d (omega (arith, short)) l
 
   pub number_passes : total_passes (row k).figure sum ≡ accepts (rule_of k) s
   number_passes = ap (total_passes (row k).figure) p.sum_is ∙ sym (exact k s number_digits)
@@ -173,28 +198,25 @@ module _ (k : Five) (s : List ℕ) (sum : ℕ) (p : Summed k s sum) where
       let n = length-set s i v in
       record { least = omega (arith, d.least); most = omega (arith, d.most); digit = all_set s i v d.digit e }
 
-  module _ (i was : ℕ) (h : i < length s) (e : was ≡ sharing k (length s - 1 - i) (digit_at s i)) where
-    -- the sum has the digit's share in it
-    pub share_within : was ≤ sum
-    share_within = omega (arith, total_set (sharing k) s i 48 h, adds_zero (adds_by k).fold (adds_by k).weights (length s - 1 - i), p.sum_is)
+  -- the sum has the digit's share in it
+  pub share_within : (i : ℕ) → i < length s → sharing k (length s - 1 - i) (digit_at s i) ≤ sum
+  share_within i h = omega (arith, total_set (sharing k) s i 48 h, adds_zero (adds_by k).fold (adds_by k).weights (length s - 1 - i), p.sum_is)
 
-    pub replaced_test : (d new : ℕ) → d < 10 → new ≡ sharing k (length s - 1 - i) d → total_passes (row k).figure (sum - was + new) ≡ accepts (rule_of k) (replaced s i d)
-    replaced_test d new l q =
-        let z : 48 + d - 48 ≡ d = omega arith in
-        let t = rw z at (total_set (sharing k) s i (48 + d) h) in
-        let v : sum - was + new ≡ total_by (adds_by k) (replaced s i d) = omega (arith, p.sum_is, share_within) in
-        ap (total_passes (row k).figure) v ∙ sym (exact k (replaced s i d) (digits_set i (48 + d) (digit_inside (48 + d) (omega arith) (omega arith))))
+  pub replaced_test : (i d : ℕ) → i < length s → d < 10
+      → total_passes (row k).figure (sum - sharing k (length s - 1 - i) (digit_at s i) + sharing k (length s - 1 - i) d) ≡ accepts (rule_of k) (replaced s i d)
+  replaced_test i d h l =
+      let z : 48 + d - 48 ≡ d = omega arith in
+      let t = rw z at (total_set (sharing k) s i (48 + d) h) in
+      let v : sum - sharing k (length s - 1 - i) (digit_at s i) + sharing k (length s - 1 - i) d ≡ total_by (adds_by k) (replaced s i d) = omega (arith, p.sum_is, share_within i h) in
+      ap (total_passes (row k).figure) v ∙ sym (exact k (replaced s i d) (digits_set i (48 + d) (digit_inside (48 + d) (omega arith) (omega arith))))
 
-  module _ (i v1 v2 n1 n2 : ℕ) (h : i + 1 < length s)
-      (r1 : v1 ≡ sharing k (length s - 1 - i) (digit_at s i)) (r2 : v2 ≡ sharing k (length s - 1 - (i + 1)) (digit_at s (i + 1)))
-      (r3 : n1 ≡ sharing k (length s - 1 - i) (digit_at s (i + 1))) (r4 : n2 ≡ sharing k (length s - 1 - (i + 1)) (digit_at s i)) where
-    change : total_by (adds_by k) (exchanged s i) + (v1 + v2) ≡ sum + (n1 + n2)
-    change = omega (arith, total_exchanged (sharing k) s i h, p.sum_is)
+  change : (i : ℕ) → i + 1 < length s → total_by (adds_by k) (exchanged s i) + before k s i ≡ sum + after k s i
+  change i h = omega (arith, total_exchanged (sharing k) s i h, p.sum_is)
 
-    pub shares_within : v1 + v2 ≤ sum + (n1 + n2)
-    shares_within = omega (arith, change)
+  pub shares_within : (i : ℕ) → i + 1 < length s → before k s i ≤ sum + after k s i
+  shares_within i h = omega (arith, change i h)
 
-    pub exchanged_test : total_passes (row k).figure (sum + (n1 + n2) - (v1 + v2)) ≡ accepts (rule_of k) (exchanged s i)
-    exchanged_test =
-        let v : sum + (n1 + n2) - (v1 + v2) ≡ total_by (adds_by k) (exchanged s i) = omega (arith, change) in
-        ap (total_passes (row k).figure) v ∙ sym (exact k (exchanged s i) (digits_exchanged (row k).least (row k).most s i number_digits h))
+  pub exchanged_test : (i : ℕ) → i + 1 < length s → total_passes (row k).figure (sum + after k s i - before k s i) ≡ accepts (rule_of k) (exchanged s i)
+  exchanged_test i h =
+      let v : sum + after k s i - before k s i ≡ total_by (adds_by k) (exchanged s i) = omega (arith, change i h) in
+      ap (total_passes (row k).figure) v ∙ sym (exact k (exchanged s i) (digits_exchanged (row k).least (row k).most s i number_digits h))

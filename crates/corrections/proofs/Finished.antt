@@ -3,81 +3,58 @@ use mathlib.Core.Path.{◌≡◌, refl, sym, ap, ◌∙◌}
 use mathlib.Core.Bool.{Bool, true, false}
 use mathlib.Core.List.{List}
 use Prim.Native.Nat.{ℕ}
-use native.Mathlib.Omega.{arith}
 use lib.ListN.{length}
+use Rattle.std.specs.Prelude.{Option, Some, None, Result, Ok, Err, ⊤}
 use Rattle.ascii.specs.Pick.{pick}
-use Rattle.ascii.proofs.Tests.{false_true}
 use Rattle.answer.specs.declared.reason.Reason.{Reason}
-use Rattle.answer.specs.declared.reason.Reason.TheVariants.{NoReason, Form as FormReason, Scheme}
-use Rattle.answer.specs.Answers.{none, first}
-use Rattle.answer.proofs.Laws.{none_means}
+use Rattle.answer.specs.declared.reason.Reason.TheVariants.{Form as FormReason}
 use Rattle.forms.specs.Form.{Form, fits, fault_of}
 use Rattle.forms.specs.declared.form.Fault.{Fault}
-use Rattle.forms.specs.declared.form.Fault.TheVariants.{Fits, Length, At}
 use Rattle.forms.proofs.OfDigits.{digits_true}
 use Rattle.text.specs.declared.reading.Reading.TheVariants.{Normalised}
 use Rattle.text.specs.Answer.{readable_of, text_by}
-use Rattle.figures.specs.declared.finding.Finding.TheVariants.{Unreadable}
 use Rattle.figures.specs.Findings.{judged}
 use Rattle.rules.specs.Finding.{accepts}
-use Rattle.corrections.specs.declared.done.Done.{Done}
 use Rattle.corrections.specs.declared.five.Five.{Five}
-use Rattle.corrections.specs.declared.five.Known.{Known}
-use Rattle.corrections.specs.declared.five.Known.TheVariants.{One, Other}
 use Rattle.corrections.specs.Five.{rule_of, number_form, body_form, five_of}
-use Rattle.corrections.specs.Outcome.{Outcome, Works, refused_with, unless, for_five, form_reason, room_reason}
+use Rattle.corrections.specs.Outcome.{Outcome, Works, unless, first, for_five, form_reason, room_reason}
 use Rattle.corrections.specs.Completing.{no_figure, completed_by, completing}
 use Rattle.corrections.specs.Corrections.{corrections}
-use Rattle.checks.specs.Reading.{found_in}
+use Rattle.checks.specs.Reading.{when_read, found_in}
 use Rattle.corrections.specs.Listing.{number_found, room_for, entries_of, listed_by, listed_for, listing}
 use Rattle.corrections.specs.Meaning.{Listed, CompletedAs}
-use Rattle.corrections.proofs.Outcomes.{unless_none}
 use Rattle.corrections.proofs.Completes.{completed}
 use Rattle.corrections.proofs.Theorems.{whole}
 
 -- the promise of a completion or a listing has no second answer, and leaves no second area
-pub one_answer : (o : Outcome) (area : List ℕ) (r q : Done) (x y : List ℕ) → Works o area r x → Works o area q y → (r ≡ q) × (x ≡ y)
+pub one_answer : (o : Outcome) (area : List ℕ) (r q : Result ℕ Reason) (x y : List ℕ) → Works o area r x → Works o area q y → (r ≡ q) × (x ≡ y)
 one_answer o area r q x y v w = (v.says ∙ sym w.says, v.now ∙ sym w.now)
 
 -- ---- no reason is given
 
-means_none : (r : Reason) → r ≡ NoReason → none r ≡ true
-unfolding none
-means_none r e = rw e
+done_none : (why : Option Reason) (o : Outcome) {n : ℕ} → (unless why o).says ≡ Ok n → why ≡ None
+unfolding unless
+done_none None o h = refl
+done_none (Some r) o h = cc
 
-scheme_given : none Scheme ≡ false
-unfolding none
-scheme_given = refl
+both_none : (a b : Option Reason) → first a b ≡ None → (a ≡ None) × (b ≡ None)
+unfolding first
+both_none None b h = (refl, h)
+both_none (Some r) b h = cc
 
-done_none : (why : Reason) (o : Outcome) → (unless why o).says.reason ≡ NoReason → none why ≡ true
-unfolding unless pick
-done_none why o h = go (none why) refl h
-  where
-    go : (t : Bool) → none why ≡ t → (pick t o (refused_with why)).says.reason ≡ NoReason → none why ≡ true
-    go true e q = e
-    go false e q = means_none why q
-
-both_none : (a b : Reason) → none (first a b) ≡ true → (none a ≡ true) × (none b ≡ true)
-unfolding first pick
-both_none a b h = go (none a) refl h
-  where
-    go : (t : Bool) → none a ≡ t → none (pick t b a) ≡ true → (none a ≡ true) × (none b ≡ true)
-    go true e q = (e, q)
-    go false e q = false_true (sym e ∙ q)
-
-form_met : (f : Form) (s : List ℕ) → none (form_reason f s) ≡ true → fits f s ≡ true
-unfolding form_reason none pick
+form_met : (f : Form) (s : List ℕ) → form_reason f s ≡ None → fits f s ≡ true
+unfolding form_reason pick
 form_met f s h = go (fits f s) h
   where
-    go : (t : Bool) → none (pick t NoReason FormReason) ≡ true → t ≡ true
+    go : (t : Bool) → pick t None (Some FormReason) ≡ None → t ≡ true
     go true q = refl
-    go false q = false_true q
+    go false q = cc
 
 -- ---- completing
 
 module _ (scheme body : List ℕ) (room : ℕ) where
-  completed_as : (k : Five) → five_of scheme ≡ One k → (completed_by k body room).says.reason ≡ NoReason → CompletedAs scheme body room
-  unfolding completing completed_by
+  completed_as : (k : Five) {n : ℕ} → five_of scheme ≡ Some k → (completed_by k body room).says ≡ Ok n → CompletedAs scheme body room
+  unfolding completing completed_by unless
   completed_as k e h =
       let why = first (no_figure k body) (room_reason 2 room) in
       let w = done_none (first (form_reason (body_form k) body) why) _ h in
@@ -86,17 +63,17 @@ module _ (scheme body : List ℕ) (room : ℕ) where
       record {
         kind = k;
         known = e;
-        completed = completed body k (digits_true _ _ body (form_met (body_form k) body p.0)) (none_means (no_figure k body) q.0);
-        outcome = rw e (unless_none (first (form_reason (body_form k) body) why) _ w);
+        completed = completed body k (digits_true _ _ body (form_met (body_form k) body p.0)) q.0;
+        outcome = rw (e, w);
       }
 
-  pub completing_done : (completing scheme body room).says.reason ≡ NoReason → CompletedAs scheme body room
+  pub completing_done : {n : ℕ} → (completing scheme body room).says ≡ Ok n → CompletedAs scheme body room
   unfolding completing
-  completing_done h = go (five_of scheme) refl h
+  completing_done {n} h = go (five_of scheme) refl h
     where
-      go : (x : Known) → five_of scheme ≡ x → (for_five x (λ k. completed_by k body room)).says.reason ≡ NoReason → CompletedAs scheme body room
-      go (One k) e q = completed_as k e q
-      go Other e q = false_true (sym scheme_given ∙ means_none Scheme q)
+      go : (x : Option Five) → five_of scheme ≡ x → (for_five x (λ k. completed_by k body room)).says ≡ Ok n → CompletedAs scheme body room
+      go (Some k) e q = completed_as k e q
+      go None e q = cc
 
 -- ---- listing
 
@@ -105,43 +82,41 @@ module _ (scheme content : List ℕ) (room : ℕ) where
   s = text_by Normalised content
 
   -- a finding by which a number is listed
-  wrong_found : (k : Five) → (listed_for k content room).says.reason ≡ NoReason
+  wrong_found : (k : Five) {n : ℕ} → (listed_for k content room).says ≡ Ok n
       → (listed_for k content room ≡ entries_of k s room) × (accepts (rule_of k) s ≡ false)
-  unfolding listed_for found_in pick
-  wrong_found k h = go (none (readable_of content)) refl h
+  unfolding listed_for found_in
+  wrong_found k {n} h = go (readable_of content) h
     where
-      judging : (y : Fault) (b : Bool) → (listed_by (judged y b) (entries_of k s room)).says.reason ≡ NoReason
+      judging : (y : Result ⊤ Fault) (b : Bool) → (listed_by (judged y b) (entries_of k s room)).says ≡ Ok n
           → (listed_by (judged y b) (entries_of k s room) ≡ entries_of k s room) × (b ≡ false)
-      judging Fits false q = (refl, refl)
-      judging Fits true q = absurd (let z : ◌≡◌ {A = ℕ} 0 1 = cc in omega arith)
-      judging Length b q = absurd (let z : ◌≡◌ {A = ℕ} 0 1 = cc in omega arith)
-      judging (At i) b q = absurd (let z : ◌≡◌ {A = ℕ} 0 1 = cc in omega arith)
+      judging (Ok fit) false q = (refl, refl)
+      judging (Ok fit) true q = cc
+      judging (Err fault) b q = cc
 
-      go : (t : Bool) → none (readable_of content) ≡ t
-          → (listed_by (pick t (number_found k s) (Unreadable (readable_of content))) (entries_of k s room)).says.reason ≡ NoReason
-          → (listed_by (pick t (number_found k s) (Unreadable (readable_of content))) (entries_of k s room) ≡ entries_of k s room) × (accepts (rule_of k) s ≡ false)
-      go true e q = judging (fault_of (number_form k) s) (accepts (rule_of k) s) q
-      go false e q = false_true (sym e ∙ means_none (readable_of content) q)
+      go : (x : Result ⊤ Reason) → (listed_by (when_read x (number_found k s)) (entries_of k s room)).says ≡ Ok n
+          → (listed_by (when_read x (number_found k s)) (entries_of k s room) ≡ entries_of k s room) × (accepts (rule_of k) s ≡ false)
+      go (Ok read) q = judging (fault_of (number_form k) s) (accepts (rule_of k) s) q
+      go (Err why) q = cc
 
-  listed_as : (k : Five) → five_of scheme ≡ One k → (listed_for k content room).says.reason ≡ NoReason → Listed scheme content room
-  unfolding listing entries_of
+  listed_as : (k : Five) {n : ℕ} → five_of scheme ≡ Some k → (listed_for k content room).says ≡ Ok n → Listed scheme content room
+  unfolding listing entries_of unless
   listed_as k e h =
       let w = wrong_found k h in
       let why = room_reason (room_for (length s)) room in
-      let n = done_none why _ (ap (λ o. o.says.reason) (sym w.0) ∙ h) in
+      let n = done_none why _ (ap (λ o. o.says) (sym w.0) ∙ h) in
       record {
         kind = k;
         known = e;
         refused = w.1;
         entries = corrections (rule_of k) s;
         whole = whole k s w.1;
-        outcome = rw e (w.0 ∙ unless_none why _ n);
+        outcome = rw (e, w.0, n);
       }
 
-  pub listing_done : (listing scheme content room).says.reason ≡ NoReason → Listed scheme content room
+  pub listing_done : {n : ℕ} → (listing scheme content room).says ≡ Ok n → Listed scheme content room
   unfolding listing
-  listing_done h = go (five_of scheme) refl h
+  listing_done {n} h = go (five_of scheme) refl h
     where
-      go : (x : Known) → five_of scheme ≡ x → (for_five x (λ k. listed_for k content room)).says.reason ≡ NoReason → Listed scheme content room
-      go (One k) e q = listed_as k e q
-      go Other e q = false_true (sym scheme_given ∙ means_none Scheme q)
+      go : (x : Option Five) → five_of scheme ≡ x → (for_five x (λ k. listed_for k content room)).says ≡ Ok n → Listed scheme content room
+      go (Some k) e q = listed_as k e q
+      go None e q = cc

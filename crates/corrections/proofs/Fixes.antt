@@ -2,11 +2,9 @@
 use mathlib.Core.Path.{◌≡◌, sym, ap, ◌∙◌}
 use mathlib.Core.Bool.{true, false}
 use mathlib.Core.List.{List, [], ◌∷◌}
-use Prim.Native.Nat.{ℕ, ◌+◌, ◌≤◌, ◌<◌}
+use Prim.Native.Nat.{ℕ, ◌+◌, ◌<◌}
 use native.Mathlib.Omega.{arith}
 use native.Mathlib.Decide.{ℕ_discrete}
-use borrow.Author.Tests.{lt-ltb, le-ltb}
-use lib.Dec.{ltb}
 use lib.ListN.{length, length-set}
 use lib.Seq.{get_or-set_same, set-set}
 use Rattle.ascii.specs.Class.{is_digit, all}
@@ -63,15 +61,13 @@ module _ (k : Five) (s : List ℕ) (i : ℕ) where
       differ : (a b : ℕ) → (a ≡ b → ⊥) → 48 + a ≡ 48 + b → ⊥
       differ a b ne x = ne (omega arith)
 
-  pub fixes_hit : (d : ℕ) → i < length s → d < 10 → accepts (rule_of k) (replaced s i d) ≡ true → fixes_at (rule_of k) s i ≡ only (ltb d 10) (replaced s i d)
-  unfolding fixes_at only
+  pub fixes_hit : (d : ℕ) → i < length s → d < 10 → accepts (rule_of k) (replaced s i d) ≡ true → fixes_at (rule_of k) s i ≡ replaced s i d ∷ []
+  unfolding fixes_at
   fixes_hit d h hd e =
       each_one 10 (λ x. if_accepted (rule_of k) (replaced s i x)) d hd
       (λ x hx ne. accepted_no (rule_of k) (replaced s i x) (not_true (accepts (rule_of k) (replaced s i x)) (λ y. ne (replaced_one x d h y e))))
       ∙ accepted_yes (rule_of k) (replaced s i d) e
-      ∙ rw (lt-ltb d 10 hd)
 
-  pub fixes_none : (d : ℕ) → 10 ≤ d → ((x : ℕ) → x < 10 → accepts (rule_of k) (replaced s i x) ≡ false) → fixes_at (rule_of k) s i ≡ only (ltb d 10) (replaced s i d)
-  unfolding fixes_at only
-  fixes_none d hd none =
-      each_none 10 (λ x. if_accepted (rule_of k) (replaced s i x)) (λ x hx. accepted_no (rule_of k) (replaced s i x) (none x hx)) ∙ rw (le-ltb d 10 hd)
+  pub fixes_none : ((x : ℕ) → x < 10 → accepts (rule_of k) (replaced s i x) ≡ false) → fixes_at (rule_of k) s i ≡ []
+  unfolding fixes_at
+  fixes_none none = each_none 10 (λ x. if_accepted (rule_of k) (replaced s i x)) (λ x hx. accepted_no (rule_of k) (replaced s i x) (none x hx))

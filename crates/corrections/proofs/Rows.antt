@@ -5,12 +5,12 @@ use mathlib.Core.List.{List}
 use Prim.Native.Nat.{ℕ, ◌+◌, ◌-◌, ◌*◌, ◌/◌, ◌≤◌}
 use native.Mathlib.Nat.{mul-div_cancel, zero-add}
 use lib.ListN.{length, length-set}
+use Rattle.std.specs.Prelude.{Result, Ok, Err, is_ok, ⊤}
 use Rattle.ascii.specs.Area.{joined, Put}
 use Rattle.ascii.proofs.Tests.{false_true}
-use Rattle.answer.specs.declared.reason.Reason.TheVariants.{NoReason, Form as FormReason, Good as GoodReason}
-use Rattle.forms.specs.Form.{fault_of, is_fit}
+use Rattle.answer.specs.declared.reason.Reason.TheVariants.{Form as FormReason, Good as GoodReason}
+use Rattle.forms.specs.Form.{fault_of}
 use Rattle.forms.specs.declared.form.Fault.{Fault}
-use Rattle.forms.specs.declared.form.Fault.TheVariants.{Fits, Length, At}
 use Rattle.figures.specs.Changes.{exchanged}
 use Rattle.figures.specs.Findings.{judged}
 use Rattle.rules.specs.declared.rule.Rule.{Rule}
@@ -45,23 +45,22 @@ module _ (r : Rule) (s : List ℕ) where
 -- ---- what a listing of a number answers
 
 module _ (k : Five) (s : List ℕ) (o : Outcome) where
-  pub listed_unfit : is_fit (fault_of (number_form k) s) ≡ false → listed_by (number_found k s) o ≡ refused_with FormReason
+  pub listed_unfit : is_ok (fault_of (number_form k) s) ≡ false → listed_by (number_found k s) o ≡ refused_with FormReason
   listed_unfit h = go (fault_of (number_form k) s) h
     where
-      go : (y : Fault) → is_fit y ≡ false → listed_by (judged y (accepts (rule_of k) s)) o ≡ refused_with FormReason
-      go Fits e = false_true (sym e)
-      go Length e = refl
-      go (At i) e = refl
+      go : (y : Result ⊤ Fault) → is_ok y ≡ false → listed_by (judged y (accepts (rule_of k) s)) o ≡ refused_with FormReason
+      go (Ok fit) e = false_true (sym e)
+      go (Err fault) e = refl
 
-  pub listed_good : fault_of (number_form k) s ≡ Fits → accepts (rule_of k) s ≡ true → listed_by (number_found k s) o ≡ refused_with GoodReason
+  pub listed_good : fault_of (number_form k) s ≡ Ok tt → accepts (rule_of k) s ≡ true → listed_by (number_found k s) o ≡ refused_with GoodReason
   listed_good f e = rw (f, e)
 
-  pub listed_wrong : fault_of (number_form k) s ≡ Fits → accepts (rule_of k) s ≡ false → listed_by (number_found k s) o ≡ o
+  pub listed_wrong : fault_of (number_form k) s ≡ Ok tt → accepts (rule_of k) s ≡ false → listed_by (number_found k s) o ≡ o
   listed_wrong f e = rw (f, e)
 
 pub entries_done : (k : Five) (s a : List ℕ) (m r : ℕ) (after : List ℕ) → room_for (length s) ≤ length a → 1 ≤ length s
     → Put m a 0 (joined (corrections (rule_of k) s)) r after
-    → Works (entries_of k s (length a)) a (record { reason = NoReason; count = r / length s }) after
+    → Works (entries_of k s (length a)) a (Ok (r / length s)) after
 unfolding entries_of
 entries_done k s a m r after h l p =
     let rows = corrections (rule_of k) s in

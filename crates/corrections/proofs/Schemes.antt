@@ -1,57 +1,43 @@
--- Comparing the bytes of a scheme. Assumes nothing.
-use mathlib.Core.Path.{◌≡◌, refl, sym, ap, ◌∙◌}
-use mathlib.Core.Bool.{Bool, true, false, ◌&&◌}
+-- A scheme by its length and its bytes. Assumes nothing.
+use mathlib.Core.Path.{◌≡◌, refl, ap, ◌∙◌}
+use mathlib.Core.Bool.{true, false}
 use mathlib.Core.List.{List, [], ◌∷◌}
-use Prim.Native.Nat.{ℕ}
+use Prim.Native.Nat.{ℕ, suc}
 use native.Mathlib.Omega.{arith}
-use borrow.Author.Tests.{eqb-true, ne_eqb}
 use lib.Dec.{eqb}
 use lib.ListN.{length, get_or}
-use Rattle.ascii.proofs.Tests.{false_true, and_true, not_true}
-use Rattle.rules.specs.declared.rule.Scheme.{Scheme}
-use Rattle.rules.specs.declared.rule.Scheme.TheVariants.{Four, NoScheme}
-use Rattle.rules.specs.Facts.{scheme_bytes}
+use Rattle.std.specs.Prelude.{None}
 use Rattle.ascii.specs.Written.{same_bytes}
+use Rattle.ascii.proofs.Tests.{and_true, not_true, false_true}
+use Rattle.corrections.specs.declared.five.Five.TheVariants.{Gln, Norway, Belgium, Sweden, Australia}
+use Rattle.corrections.specs.Five.{scheme_of, five_of}
 
-pub same_means : (s t : List ℕ) → same_bytes s t ≡ true → s ≡ t
-same_means [] [] e = refl
-same_means [] (b ∷ t) e = false_true e
-same_means (a ∷ s) [] e = false_true e
-same_means (a ∷ s) (b ∷ t) e =
-    let p = and_true (eqb a b) (same_bytes s t) e in
-    let q = eqb-true a b p.0 in
-    let r = same_means s t p.1 in
-    cc
+-- its four bytes, one by one
+pub at_four : (s : List ℕ) → length s ≡ 4 → five_of s ≡ five_of (get_or s 0 0 ∷ get_or s 1 0 ∷ get_or s 2 0 ∷ get_or s 3 0 ∷ [])
+at_four [] n = absurd (omega arith)
+at_four (a ∷ []) n = absurd (omega arith)
+at_four (a ∷ b ∷ []) n = absurd (omega arith)
+at_four (a ∷ b ∷ c ∷ []) n = absurd (omega arith)
+at_four (a ∷ b ∷ c ∷ d ∷ []) n = refl
+at_four (a ∷ b ∷ c ∷ d ∷ e ∷ s) n = absurd (omega arith)
 
-group : (p q r t : Bool) → ((p && q) && r) && t ≡ p && (q && (r && (t && true)))
-group false q r t = refl
-group true false r t = refl
-group true true false t = refl
-group true true true false = refl
-group true true true true = refl
+-- every scheme has four
+same_length : (s t : List ℕ) → same_bytes s t ≡ true → length s ≡ length t
+same_length [] [] e = refl
+same_length [] (b ∷ t) e = false_true e
+same_length (a ∷ s) [] e = false_true e
+same_length (a ∷ s) (b ∷ t) e = ap suc (same_length s t (and_true (eqb a b) (same_bytes s t) e).1)
 
-four_at : (s : List ℕ) (a b c d : ℕ) → length s ≡ 4
-    → ((eqb (get_or s 0 0) a && eqb (get_or s 1 0) b) && eqb (get_or s 2 0) c) && eqb (get_or s 3 0) d ≡ same_bytes s (a ∷ b ∷ c ∷ d ∷ [])
-four_at [] a b c d n = absurd (omega arith)
-four_at (x ∷ []) a b c d n = absurd (omega arith)
-four_at (x ∷ y ∷ []) a b c d n = absurd (omega arith)
-four_at (x ∷ y ∷ z ∷ []) a b c d n = absurd (omega arith)
-four_at (x ∷ y ∷ z ∷ w ∷ []) a b c d n = group (eqb x a) (eqb y b) (eqb z c) (eqb w d)
-four_at (x ∷ y ∷ z ∷ w ∷ v ∷ s) a b c d n = absurd (omega arith)
+not_same : (s t : List ℕ) → length t ≡ 4 → (length s ≡ 4 → ⊥) → same_bytes s t ≡ false
+not_same s t e n = not_true _ (λ f. n (same_length s t f ∙ e))
 
-none_at : (s : List ℕ) → eqb (length s) 0 ≡ same_bytes s []
-none_at [] = refl
-none_at (a ∷ s) = ne_eqb (length (a ∷ s)) 0 (λ q. omega arith)
-
-module _ (x y : Scheme) (s : List ℕ) (e : x ≡ y) where
-  pub by_none : x ≡ NoScheme → eqb (length s) 0 ≡ same_bytes s (scheme_bytes y)
-  by_none h = none_at s ∙ ap (λ z. same_bytes s (scheme_bytes z)) (sym h ∙ e)
-
-  pub by_other : (a b c d : ℕ) → x ≡ Four a b c d → (length s ≡ 4 → ⊥) → false ≡ same_bytes s (scheme_bytes y)
-  by_other a b c d h n =
-      sym (not_true (same_bytes s (a ∷ b ∷ c ∷ d ∷ [])) (λ t. n (ap length (same_means s (a ∷ b ∷ c ∷ d ∷ []) t))))
-      ∙ ap (λ z. same_bytes s (scheme_bytes z)) (sym h ∙ e)
-
-  pub by_four : (a b c d : ℕ) → x ≡ Four a b c d → length s ≡ 4
-      → ((eqb (get_or s 0 0) a && eqb (get_or s 1 0) b) && eqb (get_or s 2 0) c) && eqb (get_or s 3 0) d ≡ same_bytes s (scheme_bytes y)
-  by_four a b c d h n = four_at s a b c d n ∙ ap (λ z. same_bytes s (scheme_bytes z)) (sym h ∙ e)
+pub at_none : (s : List ℕ) → (length s ≡ 4 → ⊥) → five_of s ≡ None
+unfolding five_of
+at_none s n =
+    rw (
+      not_same s (scheme_of Gln) refl n,
+      not_same s (scheme_of Norway) refl n,
+      not_same s (scheme_of Belgium) refl n,
+      not_same s (scheme_of Sweden) refl n,
+      not_same s (scheme_of Australia) refl n,
+    )

@@ -43,7 +43,7 @@ only_few false t = omega arith
 
 fixes_few : (c : Five) (s : List ℕ) (i : ℕ) → i < length s → length (fixes_at (rule_of c) s i) ≤ 1
 fixes_few c s i h =
-    ⊎_elim (λ none. rw (fixes_none c s i 10 (omega arith) none) (only_few _ _)) (λ r. rw (fixes_hit c s i r.0 h r.1 r.2) (only_few _ _))
+    ⊎_elim (λ none. rw (fixes_none c s i none) (omega arith)) (λ r. rw (fixes_hit c s i r.0 h r.1 r.2) (omega arith))
     (find (λ d. accepts (rule_of c) (replaced s i d)) 10)
 
 accepted_few : (c : Five) (t : List ℕ) → length (if_accepted (rule_of c) t) ≤ 1

@@ -1,6 +1,6 @@
 -- The five schemes whose numbers are completed and listed, a row for each.
-use Rattle.std.specs.Prelude.{Bool, true, false, List, [], ◌∷◌, ℕ}
-use Rattle.ascii.specs.Pick.{pick}
+use Rattle.std.specs.Prelude.{Bool, true, false, Option, List, [], ◌∷◌, ℕ}
+use Rattle.std.specs.List.{find}
 use Rattle.ascii.specs.Written.{same_bytes}
 use Rattle.forms.specs.Form.{Form}
 use Rattle.forms.specs.Table.{digits, norwegian, belgian, swedish, australian}
@@ -12,8 +12,6 @@ use Rattle.rules.specs.Facts.{facts, scheme_bytes}
 use Rattle.corrections.specs.declared.five.Row.{Row}
 use Rattle.corrections.specs.declared.five.Five.{Five}
 use Rattle.corrections.specs.declared.five.Five.TheVariants.{Gln, Norway, Belgium, Sweden, Australia}
-use Rattle.corrections.specs.declared.five.Known.{Known}
-use Rattle.corrections.specs.declared.five.Known.TheVariants.{One, Other}
 
 abbrev pub row_from : Rule → Kind → Form → Form → Bool → Bool → Bool → ℕ → Row
 row_from rule figure number body pair front gaps lowest = record {
@@ -52,9 +50,8 @@ abbrev pub scheme_of : Five → List ℕ
 scheme_of k = scheme_bytes (facts (rule_of k)).scheme
 
 -- the one of a list that goes by a scheme
-abbrev pub known_in : List ℕ → List Five → Known
-known_in scheme [] = Other
-known_in scheme (k ∷ ks) = pick (same_bytes scheme (scheme_of k)) (One k) (known_in scheme ks)
+abbrev pub known_in : List ℕ → List Five → Option Five
+known_in scheme ks = find (λ k. same_bytes scheme (scheme_of k)) ks
 
-unfoldable pub five_of : List ℕ → Known
+unfoldable pub five_of : List ℕ → Option Five
 five_of scheme = known_in scheme (Gln ∷ Norway ∷ Belgium ∷ Sweden ∷ Australia ∷ [])

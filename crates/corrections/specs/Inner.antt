@@ -1,11 +1,10 @@
 -- What the code's inner functions promise. No rule cites this.
-use Rattle.std.specs.Prelude.{◌≡◌, Bool, List, ℕ, eqb}
+use Rattle.std.specs.Prelude.{◌≡◌, ◌==◌, Bool, Option, Some, None, Ok, List, ℕ}
 use Rattle.ascii.specs.Pick.{pick}
 use Rattle.answer.specs.declared.reason.Reason.{Reason}
-use Rattle.answer.specs.declared.reason.Reason.TheVariants.{NoReason, Zero, NoFigure}
+use Rattle.answer.specs.declared.reason.Reason.TheVariants.{Zero, NoFigure}
 use Rattle.forms.specs.Form.{fault_of}
-use Rattle.forms.specs.declared.form.Fault.TheVariants.{Fits}
-use Rattle.figures.specs.Figures.{Figure, total_by}
+use Rattle.figures.specs.Figures.{Figure, adds, total_by}
 use Rattle.figures.specs.Inner.{figure_by, weight_by, placed}
 use Rattle.corrections.specs.declared.five.Five.{Five}
 use Rattle.corrections.specs.Five.{row, number_form}
@@ -14,15 +13,19 @@ use Rattle.corrections.specs.Five.{row, number_form}
 abbrev pub adds_by : Five → Figure
 adds_by k = figure_by (row k).figure
 
+-- what the digit d adds with j digits to its right
+abbrev pub sharing : Five → ℕ → ℕ → ℕ
+sharing k j d = adds (adds_by k).fold (adds_by k).weights j d
+
 -- the weights of its places, of which there are at most 20
 abbrev pub places_of : Five → List ℕ
 places_of k = placed 20 (weight_by (row k).figure)
 
 -- a number of the right form, and its total
 pub record Summed (k : Five) (s : List ℕ) (sum : ℕ) : Type 0 where
-  pub formed : fault_of (number_form k) s ≡ Fits
+  pub formed : fault_of (number_form k) s ≡ Ok tt
   pub sum_is : sum ≡ total_by (adds_by k) s
 
 -- why a body has no figure, by its total and its check
-unfoldable pub why_none : Bool → ℕ → ℕ → Reason
-why_none gaps t check = pick gaps (pick (eqb t 0) Zero (pick (eqb check 10) NoFigure NoReason)) NoReason
+unfoldable pub why_none : Bool → ℕ → ℕ → Option Reason
+why_none gaps t check = pick gaps (pick (t == 0) (Some Zero) (pick (check == 10) (Some NoFigure) None)) None

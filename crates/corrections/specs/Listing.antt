@@ -1,13 +1,13 @@
 -- Listing: the normalised content, a number that its rule refuses, and all its corrections.
-use Rattle.std.specs.Prelude.{List, ℕ, ◌-◌, ◌*◌, length}
+use Rattle.std.specs.Prelude.{Ok, Err, List, [], ℕ, ◌-◌, ◌*◌, length}
 use Rattle.ascii.specs.Area.{joined}
 use Rattle.answer.specs.declared.reason.Reason.TheVariants.{Good as GoodReason}
 use Rattle.forms.specs.Form.{fault_of}
 use Rattle.text.specs.declared.reading.Reading.TheVariants.{Normalised}
 use Rattle.text.specs.Answer.{text_by}
-use Rattle.figures.specs.declared.finding.Finding.{Finding}
-use Rattle.figures.specs.declared.finding.Finding.TheVariants.{Good, Through, Zero, Wrong, Unfit, Unreadable}
-use Rattle.figures.specs.Findings.{judged, reason_of}
+use Rattle.figures.specs.declared.finding.Passed.TheVariants.{Good, Through}
+use Rattle.figures.specs.declared.finding.Problem.TheVariants.{Zero, Wrong, Unfit, Unreadable}
+use Rattle.figures.specs.Findings.{Finding, judged, reason_of}
 use Rattle.rules.specs.Finding.{accepts}
 use Rattle.corrections.specs.declared.five.Five.{Five}
 use Rattle.corrections.specs.Five.{rule_of, number_form, five_of}
@@ -28,14 +28,15 @@ unfoldable pub entries_of : Five → List ℕ → ℕ → Outcome
 entries_of k s room =
     unless (room_reason (room_for (length s)) room) (success (length (corrections (rule_of k) s)) (joined (corrections (rule_of k) s)))
 
--- GOOD where there is nothing to correct, the entries where the figure is wrong, and else the finding's own reason
+-- GOOD where there is nothing to correct, the entries where the figure is wrong, and else the finding's own reason; what is let through
+-- unread has no entry
 abbrev pub listed_by : Finding → Outcome → Outcome
-listed_by Good entries = refused_with GoodReason
-listed_by Wrong entries = entries
-listed_by Through entries = refused_with (reason_of Through)
-listed_by Zero entries = refused_with (reason_of Zero)
-listed_by (Unfit fault) entries = refused_with (reason_of (Unfit fault))
-listed_by (Unreadable why) entries = refused_with (reason_of (Unreadable why))
+listed_by (Ok Good) entries = refused_with GoodReason
+listed_by (Ok Through) entries = success 0 []
+listed_by (Err Wrong) entries = entries
+listed_by (Err Zero) entries = refused_with (reason_of Zero)
+listed_by (Err (Unfit fault)) entries = refused_with (reason_of (Unfit fault))
+listed_by (Err (Unreadable why)) entries = refused_with (reason_of (Unreadable why))
 
 unfoldable pub listed_for : Five → List ℕ → ℕ → Outcome
 listed_for k content room = listed_by (found_in Normalised (number_found k) content) (entries_of k (text_by Normalised content) room)

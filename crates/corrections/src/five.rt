@@ -1,14 +1,13 @@
 // The five schemes whose numbers are completed and listed.
 ghost use Rattle.std.specs.Prelude.{◌≡◌};
-ghost use Rattle.ascii.specs.Written.{same_bytes};
-ghost use Rattle.corrections.specs.Five.{row, rule_of, five_of, scheme_of};
+ghost use Rattle.corrections.specs.Five.{row, rule_of, five_of};
 
 use figures::Kind;
 use forms::{AUSTRALIAN, BELGIAN, NORWEGIAN, SWEDISH};
-use rules::{Rule, Scheme};
+use rules::Rule;
 
 // 0088, 0192, 0208, 0007 and 0151.
-#[derive(Clone, Copy)]
+#[derive(Clone, Copy, PartialEq, Eq, Debug)]
 pub enum Five {
     Gln,
     Norway,
@@ -17,15 +16,8 @@ pub enum Five {
     Australia,
 }
 
-// One of the five, or any other scheme.
-#[derive(Clone, Copy)]
-pub enum Known {
-    One(Five),
-    Other,
-}
-
 // What is fixed about one of the five.
-#[derive(Clone, Copy)]
+#[derive(Clone, Copy, PartialEq, Eq, Debug)]
 pub struct Row {
     pub rule: Rule,
     pub figure: Kind,
@@ -114,51 +106,27 @@ impl Five {
     pub fn rule(self) -> Rule
         ensures { result ≡ rule_of self }
     {
-        let row = self.row();
-        let rule = row.rule;
-        rule
+        self.row().rule
     }
 
     pub fn figure(self) -> Kind
         ensures { result ≡ (row self).figure }
     {
-        let row = self.row();
-        let figure = row.figure;
-        figure
+        self.row().figure
     }
 }
 
-// Whether a scheme is that of one of the five, byte for byte.
-fn goes_by(kind: Five, scheme: &[u8]) -> bool
-    ensures { result ≡ same_bytes scheme.now (scheme_of kind) }
-{
-    let rule = kind.rule();
-    let Scheme::Four(a, b, c, d) = rule.scheme() else {
-        return scheme.len() == 0;
-    };
-    if scheme.len() != 4 {
-        return false;
-    }
-    (scheme[0] == a) & (scheme[1] == b) & (scheme[2] == c) & (scheme[3] == d)
-}
-
-pub fn five_of(scheme: &[u8]) -> Known
+// The one whose rule goes by a scheme, if any does.
+#[tactic(auto, using(crate::proofs::Schemes::at_four, crate::proofs::Schemes::at_none), unfolding(crate::specs::Five::five_of))]
+pub fn five_of(scheme: &[u8]) -> Option<Five>
     ensures { result ≡ five_of scheme.now }
 {
-    if goes_by(Five::Gln, scheme) {
-        return Known::One(Five::Gln);
+    match scheme {
+        b"0088" => Some(Five::Gln),
+        b"0192" => Some(Five::Norway),
+        b"0208" => Some(Five::Belgium),
+        b"0007" => Some(Five::Sweden),
+        b"0151" => Some(Five::Australia),
+        _ => None,
     }
-    if goes_by(Five::Norway, scheme) {
-        return Known::One(Five::Norway);
-    }
-    if goes_by(Five::Belgium, scheme) {
-        return Known::One(Five::Belgium);
-    }
-    if goes_by(Five::Sweden, scheme) {
-        return Known::One(Five::Sweden);
-    }
-    if goes_by(Five::Australia, scheme) {
-        return Known::One(Five::Australia);
-    }
-    Known::Other
 }

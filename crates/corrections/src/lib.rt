@@ -2,14 +2,11 @@
 #![tactic(auto)]
 
 mod completing;
-mod done;
 mod entries;
 mod five;
-mod found;
 mod listing;
-mod row;
+mod number;
 
 pub use completing::complete;
-pub use done::Done;
-pub use five::{Five, Known, Row, five_of};
+pub use five::{Five, Row, five_of};
 pub use listing::list;

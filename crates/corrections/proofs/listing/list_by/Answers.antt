@@ -1,30 +1,30 @@
 -- `corrections::listing::list_by` meets its contract.
 use mathlib.Core.Path.{◌≡◌, sym, ap, ◌∙◌}
-use Rattle.ascii.specs.Pick.{pick}
-use Rattle.answer.proofs.Laws.{is_none, is_given}
+use lib.ListN.{take}
+use Rattle.std.specs.Prelude.{Err}
+use Rattle.std.proofs.Common.{rules}
 use Rattle.text.specs.declared.area.Text.{Text}
-use Rattle.text.specs.Answer.{readable_of, text_of}
-use Rattle.text.proofs.Laws.{reason_normal, text_area}
-use Rattle.corrections.specs.Outcome.{refused_with}
+use Rattle.text.specs.declared.reading.Reading.TheVariants.{Normalised}
+use Rattle.text.specs.Answer.{readable_of, len_of, without_len, text_of, text_by}
+use Rattle.text.proofs.Laws.{reason_normal}
 use Rattle.checks.specs.Reading.{found_in}
 use Rattle.corrections.specs.Listing.{listed_for}
 use Rattle.corrections.proofs.Outcomes.{works_refused}
-use Rattle.corrections.proofs.listing.list_by.Goals.{After-number}
+use Rattle.corrections.proofs.listing.list_by.Goals.{After-normalize_into}
 use Rattle.corrections.proofs.listing.list_by.Goals as goal
 
-why : (t : After-number) → t.normalize_into-kept.result.reason ≡ readable_of t.args.content.now
-why t = ap (λ (x : Text). x.reason) t.normalize_into-kept.ensures ∙ reason_normal t.args.content.now
+read : (t : After-normalize_into) → readable_of t.args.content.now ≡ without_len t.normalize_into.result
+read t = sym (reason_normal t.args.content.now) ∙ ap (λ (x : Text). without_len x.kept) (sym t.normalize_into.ensures)
 
-pub slice_bounds-first_bytes-end : goal.slice_bounds-first_bytes-end
-slice_bounds-first_bytes-end c = rw (ap (λ (x : Text). x.bytes) c.normalize_into-kept.ensures) (sym (text_area c.args.content.now))
-
-pub returns-then-number-eq0 : goal.returns-then-number-eq0
-unfolding listed_for found_in pick
-returns-then-number-eq0 c =
-    let e = c.first_bytes.ensures ∙ ap (λ (x : Text). text_of x) c.normalize_into-kept.ensures in
-    rw (rw (why (goal.at.returns-then-number-eq0 c).After-number) at (is_none c.normalize_into-kept.result.reason c.number.ensures c.if-number-eq0.true), ← e) c.list_text.ensures
+pub returns-in_err-n : goal.returns-in_err-n
+unfolding listed_for found_in
+returns-in_err-n c =
+    let why = c.in_err-n.field-0.0 in
+    let e : c.from_residual.result ≡ Err why = search rules in
+    works_refused why _ (rw (read (goal.at.returns-in_err-n c).After-normalize_into ∙ ap without_len c.in_err-n.was)) e
 
 pub returns : goal.returns
-unfolding listed_for found_in pick
+unfolding listed_for found_in
 returns c =
-    works_refused (readable_of c.args.content.now) _ (rw (rw (why (goal.at.returns c).After-number) at (is_given c.normalize_into-kept.result.reason c.number.ensures c.if-number-eq0.false))) (c.refused.ensures ∙ ap (λ r. (refused_with r).says) (why (goal.at.returns c).After-number))
+    let s : c.first_bytes.result.now ≡ text_by Normalised c.args.content.now = c.first_bytes.ensures ∙ ap (λ k. take (len_of k) c.normalize_into.new.out) (sym c.in_ok-n.was) ∙ ap (λ (x : Text). text_of x) c.normalize_into.ensures in
+    rw (read (goal.at.returns c).After-normalize_into ∙ ap without_len c.in_ok-n.was, ← s) c.list_text.ensures
