@@ -1,5 +1,5 @@
 -- What the code's inner functions promise. No rule cites this.
-use Rattle.std.specs.Prelude.{◌≡◌, ◌==◌, Bool, Option, Some, None, Ok, List, ℕ}
+use Rattle.std.specs.Prelude.{◌≡◌, ◌==◌, Bool, Option, Some, None, Ok, List, [], ◌∷◌, ℕ}
 use Rattle.ascii.specs.Pick.{pick}
 use Rattle.answer.specs.declared.reason.Reason.{Reason}
 use Rattle.answer.specs.declared.reason.Reason.TheVariants.{Zero, NoFigure}
@@ -8,6 +8,7 @@ use Rattle.figures.specs.Figures.{Figure, adds, total_by}
 use Rattle.figures.specs.Inner.{figure_by, weight_by, placed}
 use Rattle.corrections.specs.declared.five.Five.{Five}
 use Rattle.corrections.specs.Five.{row, number_form}
+use Rattle.corrections.specs.Corrections.{replaced}
 
 -- how the digits of a number add up
 abbrev pub adds_by : Five → Figure
@@ -29,3 +30,8 @@ pub record Summed (k : Five) (s : List ℕ) (sum : ℕ) : Type 0 where
 -- why a body has no figure, by its total and its check
 unfoldable pub why_none : Bool → ℕ → ℕ → Option Reason
 why_none gaps t check = pick gaps (pick (t == 0) (Some Zero) (pick (check == 10) (Some NoFigure) None)) None
+
+-- the number with the digit that was found for place i, if there is one
+abbrev pub mended : List ℕ → ℕ → Option ℕ → List (List ℕ)
+mended s i None = []
+mended s i (Some d) = replaced s i d ∷ []

@@ -1,5 +1,6 @@
 -- What completing and listing mean, said without them.
-use Rattle.std.specs.Prelude.{◌≡◌, true, false, Some, None, ◌↔◌, ◌⊎◌, ℕ, ◌+◌, ◌-◌, ◌*◌, ◌≤◌, ◌<◌, length, slice_index}
+use Rattle.std.specs.Prelude.{◌≡◌, true, false, Some, None, ◌↔◌, ◌⊎◌, ℕ, length, slice_index}
+use Rattle.std.specs.Prelude.{◌+◌, ◌-◌, ◌*◌, ◌≤◌, ◌<◌}
 use mathlib.Core.List.{List, [], ◌∷◌, Memᴰ}
 use Rattle.text.specs.declared.reading.Reading.TheVariants.{Normalised}
 use Rattle.text.specs.Answer.{text_by}
@@ -18,7 +19,8 @@ use Rattle.corrections.specs.Listing.{room_for, listing}
 -- ZERO and NO_FIGURE stand exactly when no figure completes the body
 abbrev pub NoneCompletes : Five → List ℕ → Type 0
 NoneCompletes k body =
-    (no_figure k body ≡ None → ⊥) ↔ ((y : List ℕ) → length y ≡ length (figure_for k body) → accepts (rule_of k) (number_with k body y) ≡ false)
+    (no_figure k body ≡ None → ⊥)
+    ↔ ((y : List ℕ) → length y ≡ length (figure_for k body) → accepts (rule_of k) (number_with k body y) ≡ false)
 
 -- a completion that is done: of one of the five; it writes the figure that completes the body
 pub record CompletedAs (scheme body : List ℕ) (room : ℕ) : Type 0 where

@@ -25,7 +25,7 @@ fn put_changed(s: &[u8], i: usize, others: &[u8], out: &mut [u8], at: usize) -> 
 fn put_replacement(number: &Number, i: usize, out: &mut [u8], at: usize) -> usize
     requires inside { i < length number.now.digits.now }
     requires room { at + length number.now.digits.now ≤ length out.old }
-    ensures { Put (length number.now.digits.now) out.old at (joined (fixes_at (rule_of number.now.kind) number.now.digits.now i)) result out.new }
+    ensures { let s = number.now.digits.now in Put (length s) out.old at (joined (fixes_at (rule_of number.now.kind) s i)) result out.new }
 {
     match number.digit_at(i) {
         Some(d) => put_changed(number.digits, i, &[b'0' + d], out, at),
@@ -37,7 +37,8 @@ fn put_replacement(number: &Number, i: usize, out: &mut [u8], at: usize) -> usiz
 fn put_exchange(number: &Number, i: usize, out: &mut [u8], at: usize) -> usize
     requires inside { i + 1 < length number.now.digits.now }
     requires room { at + length number.now.digits.now ≤ length out.old }
-    ensures { Put (length number.now.digits.now) out.old at (joined (if_accepted (rule_of number.now.kind) (exchanged number.now.digits.now i))) result out.new }
+    ensures { let s = number.now.digits.now in
+        Put (length s) out.old at (joined (if_accepted (rule_of number.now.kind) (exchanged s i))) result out.new }
 {
     let s = number.digits;
     if number.accepts_exchanged(i) {
@@ -49,7 +50,8 @@ fn put_exchange(number: &Number, i: usize, out: &mut [u8], at: usize) -> usize
 // All replacements and then all exchanges, from the area's start on; hands back where they end.
 pub(crate) fn put_corrections(number: &Number, out: &mut [u8]) -> usize
     requires { room_for (length number.now.digits.now) ≤ length out.old }
-    ensures { Put (room_for (length number.now.digits.now)) out.old 0 (joined (corrections (rule_of number.now.kind) number.now.digits.now)) result out.new }
+    ensures { let s = number.now.digits.now in
+        Put (room_for (length s)) out.old 0 (joined (corrections (rule_of number.now.kind) s)) result out.new }
 {
     let n = number.digits.len();
     let mut at = 0;

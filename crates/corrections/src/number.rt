@@ -1,11 +1,11 @@
 // A number, and which of its corrections the rule accepts, found from its one total.
-ghost use Rattle.std.specs.Prelude.{◌≡◌, ◌+◌, ◌-◌, ◌<◌, [], ◌∷◌, length, IfSome, MatchOption};
+ghost use Rattle.std.specs.Prelude.{◌≡◌, ◌+◌, ◌-◌, ◌<◌, length, IfSome};
 ghost use Rattle.figures.specs.Changes.{exchanged};
 ghost use Rattle.figures.specs.Total.{digit_at};
 ghost use Rattle.rules.specs.Finding.{accepts};
 ghost use Rattle.corrections.specs.Five.{rule_of};
-ghost use Rattle.corrections.specs.Corrections.{replaced, fixes_at};
-ghost use Rattle.corrections.specs.Inner.{places_of, sharing, Summed};
+ghost use Rattle.corrections.specs.Corrections.{fixes_at};
+ghost use Rattle.corrections.specs.Inner.{places_of, sharing, mended, Summed};
 
 use super::five::Five;
 use figures::{passes, share};
@@ -41,7 +41,7 @@ impl Number<'_> {
     // The digit that makes the rule accept the number when it stands at i; there is one at most.
     pub fn digit_at(&self, i: usize) -> Option<u8>
         requires { i < length self.now.digits.now }
-        ensures found { MatchOption result (fixes_at (rule_of self.now.kind) self.now.digits.now i ≡ []) (λ d. fixes_at (rule_of self.now.kind) self.now.digits.now i ≡ replaced self.now.digits.now i d ∷ []) }
+        ensures found { fixes_at (rule_of self.now.kind) self.now.digits.now i ≡ mended self.now.digits.now i result }
         ensures digit { IfSome result (λ d. d < 10) }
     {
         let figure = self.kind.figure();
