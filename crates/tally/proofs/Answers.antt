@@ -1,19 +1,18 @@
 -- Every answer to a line has one cell, two have the same exactly where rule and verdict are the same, and every cell is an answer's. Assumes nothing.
+use Rattle.std.specs.Prelude.{Option, Some, None, Result, Ok, Err}
 use Rattle.std.proofs.Common.{◌≡◌, ℕ, zero, suc, ◌+◌, ◌-◌, ◌*◌, ◌/◌, ◌%◌, ◌<◌, Bool, true, false, eqb, ltb, List, [], ◌∷◌, get_or, take, sym, refl, ap, ◌∙◌, arith, ltb-false, ltb-true, lt-ltb, eq-eqb, eqb-true}
 use borrow.Author.Tests.{eqb-false}
 use Rattle.ascii.specs.Pick.{pick}
 use Rattle.ascii.proofs.Tests.{both_ways, and_true, true_and, below_at}
 use Rattle.answer.specs.declared.record.Answer.{Answer}
-use Rattle.answer.specs.declared.severity.Severity.TheVariants.{NoSeverity}
-use Rattle.answer.specs.declared.reason.Reason.TheVariants.{NoReason, Line}
+use Rattle.answer.specs.declared.reason.Reason.{Reason}
+use Rattle.answer.specs.declared.reason.Reason.TheVariants.{Line}
 use Rattle.answer.specs.declared.verdict.Verdict.{Verdict}
-use Rattle.answer.specs.declared.verdict.Verdict.TheVariants.{NoRule as NoVerdict, Accepted, Refused, Unread}
+use Rattle.answer.specs.declared.verdict.Verdict.TheVariants.{NoRule, Accepted, Refused, Unread}
 use Rattle.answer.specs.Numbers.{verdict_number}
 use Rattle.answer.specs.Answers.{no_rule, refused}
 use Rattle.rules.specs.declared.rule.Rule.{Rule}
 use Rattle.rules.specs.declared.rule.Rule.TheVariants.{R40}
-use Rattle.rules.specs.declared.choice.Chosen.{Chosen}
-use Rattle.rules.specs.declared.choice.Chosen.TheVariants.{By, NoRule, NoTerm}
 use Rattle.rules.specs.Facts.{facts, rules}
 use Rattle.rules.specs.Choice.{rule_for, rule_numbered}
 use Rattle.rules.proofs.Every.{number_back, at_index, index_small}
@@ -26,10 +25,10 @@ use Rattle.tally.proofs.Places.{verdict_few, cell_small}
 
 -- ---- the answer to a line
 
-chosen_proper : (x : Chosen) (content : List ℕ) → Proper (on_chosen x content)
-chosen_proper (By r) content = ruled r (by_number r content) (by_judged r content)
-chosen_proper NoRule content = unruled refl refl
-chosen_proper NoTerm content = before refl refl
+chosen_proper : (x : Result (Option Rule) Reason) (content : List ℕ) → Proper (on_chosen x content)
+chosen_proper (Ok (Some r)) content = ruled r (by_number r content) (by_judged r content)
+chosen_proper (Ok None) content = unruled refl refl
+chosen_proper (Err why) content = before refl refl
 
 pick_proper : (t : Bool) (a b : Answer) → Proper a → Proper b → Proper (pick t a b)
 unfolding pick
@@ -41,7 +40,7 @@ pub line_proper : (l : List ℕ) → Proper (answer_of l)
 unfolding answer_of check_of
 line_proper l =
     let x = rule_for (take 4 l) (term_of l) in
-    pick_proper (head_ok l) (on_chosen x (line_content l)) (refused 0 NoSeverity Line) (chosen_proper x (line_content l)) (before refl refl)
+    pick_proper (head_ok l) (on_chosen x (line_content l)) (refused 0 None Line) (chosen_proper x (line_content l)) (before refl refl)
 
 -- ---- a cell leads back to rule and verdict
 
@@ -73,16 +72,16 @@ back a (before e v) = rw (cell_other a e, v) (e, refl)
 -- ---- the same cell
 
 abbrev verdicts : List Verdict
-verdicts = NoVerdict ∷ Accepted ∷ Refused ∷ Unread ∷ []
+verdicts = NoRule ∷ Accepted ∷ Refused ∷ Unread ∷ []
 
-verdict_back : (v : Verdict) → get_or verdicts (verdict_number v) NoVerdict ≡ v
-verdict_back NoVerdict = refl
+verdict_back : (v : Verdict) → get_or verdicts (verdict_number v) NoRule ≡ v
+verdict_back NoRule = refl
 verdict_back Accepted = refl
 verdict_back Refused = refl
 verdict_back Unread = refl
 
 same_verdict : (v w : Verdict) → verdict_number v ≡ verdict_number w → v ≡ w
-same_verdict v w e = sym (verdict_back v) ∙ ap (λ (k : ℕ). get_or verdicts k NoVerdict) e ∙ verdict_back w
+same_verdict v w e = sym (verdict_back v) ∙ ap (λ (k : ℕ). get_or verdicts k NoRule) e ∙ verdict_back w
 
 -- Two answers share a cell exactly where rule and verdict are the same.
 pub shares : (a b : Answer) → Proper a → Proper b → cell_of a ≡ cell_of b → (a.rule ≡ b.rule) × (a.verdict ≡ b.verdict)
@@ -124,7 +123,7 @@ index_at i h = eqb-true _ _ (below_at 17 (λ i. eqb (facts (get_or rules i R40))
 owned : (i : ℕ) (v : Verdict) → i < 17 → 0 < verdict_number v → Owner (3 * i + (verdict_number v - 1))
 owned i v h n =
     let r = get_or rules i R40 in
-    let a : Answer = record { verdict = v; rule = (facts r).number; severity = NoSeverity; reason = NoReason } in
+    let a : Answer = record { verdict = v; rule = (facts r).number; severity = None; reason = None } in
     record { answer = a; proper = ruled r refl n; here = cell_ruled a r refl ∙ rw (index_at i h) }
 
 by_rule : (k p : ℕ) → k < 51 → p ≡ k % 3 → Owner k
@@ -141,7 +140,7 @@ by_rule k (suc (suc p)) h e = rw e' (owned (k / 3) Unread (omega arith) (omega a
     e' : k ≡ 3 * (k / 3) + 2
     e' = omega (arith, e)
 
-zero_verdict : other_cell NoVerdict ≡ 51
+zero_verdict : other_cell NoRule ≡ 51
 unfolding pick
 zero_verdict = refl
 
@@ -159,5 +158,5 @@ every_cell k h = at_tests (ltb k 51) (eqb k 51) refl refl
         record { answer = no_rule; proper = unruled refl refl; here = cell_other no_rule refl ∙ zero_verdict ∙ sym (eqb-true k 51 f) }
     at_tests false false e f =
         let last : k ≡ 52 = omega (arith, h, ltb-false k 51 e, eqb-false k 51 f) in
-        let a = refused 0 NoSeverity Line in
+        let a = refused 0 None Line in
         record { answer = a; proper = before refl refl; here = cell_other a refl ∙ two_verdict ∙ sym last }

@@ -1,6 +1,7 @@
 -- What the counts mean: lines that are fed to a tally one after the other. Assumes nothing.
 use Rattle.std.proofs.Common.{◌≡◌, ℕ, zero, suc, ◌+◌, ◌-◌, ◌<◌, ◌≤◌, min, Bool, true, false, eqb, leb, List, [], ◌∷◌, ◌++◌, length, get_or, take, drop, set, replicate, sym, refl, ap, ◌∙◌, add-zero, zero-add, arith, length-set, length-take, get_or-set_other, get_or-set_same, eqb-true, le-leb, leb-false, leb-true}
 use lib.ListN.{length-replicate}
+use Rattle.std.proofs.lemmas.List.Folds.{sum_by-replicate}
 use borrow.Author.Tests.{lt-leb, eqb-false}
 use Rattle.ascii.specs.Pick.{pick}
 use Rattle.answer.specs.declared.record.Answer.{Answer}
@@ -114,9 +115,7 @@ zeros (suc n) zero = refl
 zeros (suc n) (suc k) = zeros n k
 
 no_sum : (n : ℕ) → sum_of (replicate n 0) ≡ 0
-unfolding sum_of
-no_sum zero = refl
-no_sum (suc n) = omega (arith, no_sum n)
+no_sum n = omega (arith, sum_by-replicate (λ x. x) n 0)
 
 fresh_size : length fresh ≡ tally_size
 fresh_size = length-replicate {A = ℕ} tally_size 0

@@ -1,69 +1,70 @@
 -- The text of a tally as the code stores it. Assumes nothing.
-use Rattle.std.proofs.Common.{◌≡◌, ℕ, zero, suc, ◌+◌, ◌*◌, ◌/◌, ◌%◌, ◌<◌, ◌≤◌, leb, List, [], ◌∷◌, ◌++◌, length, get_or, take, drop, set, sym, refl, ap, ◌∙◌, append_assoc, add-one, arith, drop_of_length-le, drop-cons, drop-drop, le-leb}
+use Rattle.std.proofs.Common.{◌≡◌, ℕ, zero, suc, ◌+◌, ◌*◌, ◌<◌, ◌≤◌, leb, List, [], ◌∷◌, ◌++◌, length, get_or, take, drop, sym, refl, ap, ◌∙◌, append_assoc, add-one, arith, drop_of_length-le, drop-cons, drop-drop, length-drop, take_all, le-leb}
 use borrow.Author.Tests.{lt-leb}
 use Rattle.ascii.specs.Area.{Put}
 use Rattle.ascii.specs.Pick.{pick}
-use Rattle.ascii.proofs.Area.{put_size, put_more, put_most, put_stores, put_none}
-use Rattle.answer.specs.Text.{numeral, field, numbers_text}
-use Rattle.answer.proofs.Numerals.{numeral_one, numeral_more, numeral_few, numeral_fewer}
+use Rattle.ascii.proofs.Area.{put_size, put_more, put_room, put_most, put_none}
+use Rattle.answer.specs.Text.{field, numbers_text}
+use Rattle.answer.proofs.Numerals.{field_within}
 use Rattle.rules.specs.declared.rule.Rule.{Rule}
 use Rattle.rules.specs.declared.rule.Rule.TheVariants.{R40}
 use Rattle.rules.specs.Facts.{facts, rules}
-use Rattle.tally.specs.Cell.{tally_size}
 use Rattle.tally.specs.Text.{lines_text, tally_text, tally_room}
-
--- ---- a number
-
-pub put_digit : (l : List ℕ) (at n : ℕ) → at + 10 ≤ length l → n < 10 → Put 10 l at (numeral n) (at + 1) (set l at (48 + n % 10))
-put_digit l at n room h =
-    let e : 48 + n % 10 ≡ 48 + n = omega arith in
-    rw (numeral_one n h, e) (put_stores refl refl (omega arith) (omega arith))
-
-module _ {old mid : List ℕ} {at k : ℕ} (n : ℕ) (room : at + 10 ≤ length old) (small : n < 4294967296) (p : Put 10 old at (numeral (n / 10)) k mid) where
-  pub digit_fits : k < length mid
-  digit_fits =
-      let few : length (numeral (n / 10)) ≤ 9 = numeral_fewer (n / 10) (omega arith) in
-      omega (arith, p.ends, few, put_size p (omega (arith, few)))
-
-  pub put_next : 10 ≤ n → Put 10 old at (numeral n) (k + 1) (set mid k (48 + n % 10))
-  put_next h =
-      let e = numeral_more n h (omega arith) in
-      let one : Put 1 mid k ((48 + n % 10) ∷ []) (k + 1) (set mid k (48 + n % 10)) = put_stores refl refl (omega arith) (omega (arith, digit_fits)) in
-      let more = put_more p one (omega (arith, p.few)) in
-      rw e (put_most more (omega (arith, numeral_few n, ap length e)))
 
 -- ---- a line
 
-three : (counts : List ℕ) (i : ℕ) → i + 3 ≤ length counts
-    → take 3 (drop i counts) ≡ get_or counts i 0 ∷ get_or counts (i + 1) 0 ∷ get_or counts (i + 1 + 1) 0 ∷ []
-three counts i h =
-    let a = drop-cons counts i 0 (omega arith) in
-    let b = drop-cons counts (suc i) 0 (omega arith) in
-    let c = drop-cons counts (suc (suc i)) 0 (omega arith) in
-    rw (add-one i, add-one (suc i), a, b, c)
+-- a number of 32 bits and the byte behind it
+count_long : (n b : ℕ) → n < 4294967296 → length (field n b) ≤ 11
+count_long n b h = field_within 9 n b (omega arith)
 
-pub put_row : (n : ℕ) (counts : List ℕ) (i : ℕ) {o o₁ o₂ o₃ o₄ : List ℕ} {at k l m r : ℕ} → i + 3 ≤ length counts → at + 44 ≤ length o
-    → Put 11 o at (field n 32) k o₁ → Put 11 o₁ k (field (get_or counts i 0) 32) l o₂ → Put 11 o₂ l (field (get_or counts (i + 1) 0) 32) m o₃
-    → Put 11 o₃ m (field (get_or counts (i + 1 + 1) 0) 10) r o₄
-    → Put 44 o at (numbers_text (n ∷ take 3 (drop i counts))) r o₄
+pub count_fits : (n b at room : ℕ) → n < 4294967296 → at + 11 ≤ room → at + length (field n b) ≤ room
+count_fits n b at room h e = omega (arith, count_long n b h)
+
+module _ {o o' : List ℕ} {at k : ℕ} (n b : ℕ) (small : n < 4294967296) (p : Put (length (field n b)) o at (field n b) k o') where
+  put_count : Put 11 o at (field n b) k o'
+  put_count = put_most p (count_long n b small)
+
+  pub room_behind : (left : ℕ) → at + (11 + left) ≤ length o → k + left ≤ length o'
+  room_behind left h = put_room put_count left h
+
+three : (counts : List ℕ) → length counts ≡ 3 → counts ≡ get_or counts 0 0 ∷ get_or counts 1 0 ∷ get_or counts 2 0 ∷ []
+three counts h =
+    let a = drop-cons counts 0 0 (omega arith) in
+    let b = drop-cons counts 1 0 (omega arith) in
+    let c = drop-cons counts 2 0 (omega arith) in
+    let past : length counts ≤ 3 = omega arith in
+    a ∙ rw (b, c, drop_of_length-le counts past)
+
+pub put_row : (n : ℕ) (counts : List ℕ) {o o₁ o₂ o₃ o₄ : List ℕ} {at k l m r : ℕ} → length counts ≡ 3 → at + 44 ≤ length o
+    → n < 4294967296 → ((i : ℕ) → get_or counts i 0 < 4294967296)
+    → Put (length (field n 32)) o at (field n 32) k o₁
+    → Put (length (field (get_or counts 0 0) 32)) o₁ k (field (get_or counts 0 0) 32) l o₂
+    → Put (length (field (get_or counts 1 0) 32)) o₂ l (field (get_or counts 1 0) 32) m o₃
+    → Put (length (field (get_or counts 2 0) 10)) o₃ m (field (get_or counts 2 0) 10) r o₄
+    → Put 44 o at (numbers_text (n ∷ counts)) r o₄
 unfolding numbers_text
-put_row n counts i h room p q x y =
-    let pq = put_more p q (omega (arith, p.few)) in
-    let pqx = put_more pq x (omega (arith, pq.few)) in
-    rw (three counts i h) (simp append_assoc at (put_more pqx y (omega (arith, pqx.few))))
+put_row n counts h room small each p q x y =
+    let p' = put_count n 32 small p in
+    let pq = put_more p' (put_count _ 32 (each 0) q) (omega (arith, p'.few)) in
+    let pqx = put_more pq (put_count _ 32 (each 1) x) (omega (arith, pq.few)) in
+    rw (three counts h) (simp append_assoc at (put_more pqx (put_count _ 10 (each 2) y) (omega (arith, pqx.few))))
 
-two : (counts : List ℕ) → length counts ≡ tally_size → drop 51 counts ≡ get_or counts 51 0 ∷ get_or counts 52 0 ∷ []
+two : (counts : List ℕ) → length counts ≡ 2 → counts ≡ get_or counts 0 0 ∷ get_or counts 1 0 ∷ []
 two counts h =
-    let a = drop-cons counts 51 0 (omega arith) in
-    let b = drop-cons counts 52 0 (omega arith) in
-    let past : length counts ≤ 53 = omega arith in
-    rw (a, b, drop_of_length-le counts past)
+    let a = drop-cons counts 0 0 (omega arith) in
+    let b = drop-cons counts 1 0 (omega arith) in
+    let past : length counts ≤ 2 = omega arith in
+    a ∙ rw (b, drop_of_length-le counts past)
 
-pub put_two : (counts : List ℕ) {o o₁ o₂ : List ℕ} {at k r : ℕ} → length counts ≡ tally_size → at + 22 ≤ length o
-    → Put 11 o at (field (get_or counts 51 0) 32) k o₁ → Put 11 o₁ k (field (get_or counts 52 0) 10) r o₂
-    → Put 22 o at (numbers_text (drop 51 counts)) r o₂
+pub put_two : (counts : List ℕ) {o o₁ o₂ : List ℕ} {at k r : ℕ} → length counts ≡ 2 → at + 22 ≤ length o
+    → ((i : ℕ) → get_or counts i 0 < 4294967296)
+    → Put (length (field (get_or counts 0 0) 32)) o at (field (get_or counts 0 0) 32) k o₁
+    → Put (length (field (get_or counts 1 0) 10)) o₁ k (field (get_or counts 1 0) 10) r o₂
+    → Put 22 o at (numbers_text counts) r o₂
 unfolding numbers_text
-put_two counts h room p q = rw (two counts h) (put_more p q (omega (arith, p.few)))
+put_two counts h room each p q =
+    let p' = put_count _ 32 (each 0) p in
+    rw (two counts h) (put_more p' (put_count _ 10 (each 1) q) (omega (arith, p'.few)))
 
 -- ---- line by line
 
@@ -108,27 +109,28 @@ module _ {counts old new : List ℕ} {at end i : ℕ} (l : Laying counts old at 
       let e : 3 * i + 3 ≡ 3 * (i + 1) = omega arith in
       rw (d, ← e, ← drop-drop 3 (3 * i) counts, add-one i)
 
-  pub laying_line : {n end' : ℕ} {new' : List ℕ} → i < 17 → n ≡ (facts (get_or rules i R40)).number
-      → Put 44 new end (numbers_text (n ∷ take 3 (drop (3 * i) counts))) end' new' → Laying counts old at new' end' (i + 1)
-  laying_line {n} h en p =
+  pub laying_line : {n end' : ℕ} {cs new' : List ℕ} → i < 17 → n ≡ (facts (get_or rules i R40)).number → cs ≡ take 3 (drop (3 * i) counts)
+      → Put 44 new end (numbers_text (n ∷ cs)) end' new' → Laying counts old at new' end' (i + 1)
+  laying_line {n} {cs = cs} h en ec p =
       let more = put_more l.laid p (omega (arith, l.laid.few, l.within)) in
       record {
-        done = l.done ++ numbers_text (n ∷ take 3 (drop (3 * i) counts));
+        done = l.done ++ numbers_text (n ∷ cs);
         laid = put_most more (omega (arith, more.few));
         says =
             l.says
             ∙ ap (λ (t : List ℕ). l.done ++ t) (row h)
-            ∙ rw en (sym (append_assoc l.done _ _));
+            ∙ rw (en, ec) (sym (append_assoc l.done _ _));
         within = omega arith;
       }
 
-  pub laying_others : {end' : ℕ} {new' : List ℕ} → 17 ≤ i → Put 22 new end (numbers_text (drop 51 counts)) end' new'
+  pub laying_others : {end' : ℕ} {new' : List ℕ} → length counts ≡ 53 → 17 ≤ i → Put 22 new end (numbers_text (take 2 (drop 51 counts))) end' new'
       → Put tally_room old at (tally_text counts) end' new'
   unfolding lines_text
-  laying_others h p =
+  laying_others size h p =
       let e : i ≡ 17 = omega (arith, l.within) in
       let more = put_more l.laid p (omega (arith, l.laid.few, l.within)) in
-      let t : tally_text counts ≡ l.done ++ numbers_text (drop 51 counts) = rw e at l.says in
+      let all : take 2 (drop 51 counts) ≡ drop 51 counts = take_all 2 (drop 51 counts) (omega (arith, length-drop 51 counts)) in
+      let t : tally_text counts ≡ l.done ++ numbers_text (take 2 (drop 51 counts)) = rw all (rw e at l.says) in
       rw t (put_most more (omega (arith, more.few, l.within)))
 
 -- ---- where it fits

@@ -1,13 +1,11 @@
 -- Which of a tally's counts an answer goes to, by its rule and its verdict.
-use Rattle.std.specs.Prelude.{◌≡◌, ℕ, ◌+◌, ◌-◌, ◌*◌, ◌<◌, ◌==◌}
+use Rattle.std.specs.Prelude.{Option, Some, None, ◌≡◌, ℕ, ◌+◌, ◌-◌, ◌*◌, ◌<◌, ◌==◌}
 use Rattle.ascii.specs.Pick.{pick}
 use Rattle.answer.specs.declared.record.Answer.{Answer}
 use Rattle.answer.specs.declared.verdict.Verdict.{Verdict}
-use Rattle.answer.specs.declared.verdict.Verdict.TheVariants.{NoRule as NoVerdict, Refused}
+use Rattle.answer.specs.declared.verdict.Verdict.TheVariants.{NoRule, Refused}
 use Rattle.answer.specs.Numbers.{verdict_number}
 use Rattle.rules.specs.declared.rule.Rule.{Rule}
-use Rattle.rules.specs.declared.choice.Chosen.{Chosen}
-use Rattle.rules.specs.declared.choice.Chosen.TheVariants.{By, NoRule, NoTerm}
 use Rattle.rules.specs.Facts.{facts}
 use Rattle.rules.specs.Choice.{rule_numbered}
 
@@ -20,10 +18,9 @@ abbrev pub other_cell : Verdict → ℕ
 other_cell v = pick (verdict_number v == 0) 51 52
 
 -- three for each rule, in the order of their numbers: for verdicts 1, 2 and 3
-abbrev pub cell_by : Chosen → Verdict → ℕ
-cell_by (By r) v = 3 * (facts r).index + (verdict_number v - 1)
-cell_by NoRule v = other_cell v
-cell_by NoTerm v = other_cell v
+abbrev pub cell_by : Option Rule → Verdict → ℕ
+cell_by (Some r) v = 3 * (facts r).index + (verdict_number v - 1)
+cell_by None v = other_cell v
 
 unfoldable pub cell_of : Answer → ℕ
 cell_of a = cell_by (rule_numbered a.rule) a.verdict
@@ -31,5 +28,5 @@ cell_of a = cell_by (rule_numbered a.rule) a.verdict
 -- the answers that a line can have
 pub data Proper : Answer → Type 0 where
   ruled : {a : Answer} (r : Rule) → a.rule ≡ (facts r).number → 0 < verdict_number a.verdict → Proper a
-  unruled : {a : Answer} → a.rule ≡ 0 → a.verdict ≡ NoVerdict → Proper a
+  unruled : {a : Answer} → a.rule ≡ 0 → a.verdict ≡ NoRule → Proper a
   before : {a : Answer} → a.rule ≡ 0 → a.verdict ≡ Refused → Proper a

@@ -1,9 +1,8 @@
 -- What the contracts of inner functions cite; no rule cites it.
-use Rattle.std.specs.Prelude.{ℕ, ◌+◌, ◌-◌, ◌*◌, ◌%◌, Bool, List, slice_index, slice_set}
+use Rattle.std.specs.Prelude.{Option, Some, None, ℕ, ◌+◌, ◌-◌, ◌*◌, ◌%◌, Bool, List, slice_index, slice_set}
 use Rattle.ascii.specs.Pick.{pick}
 use Rattle.answer.specs.declared.record.Answer.{Answer}
-use Rattle.rules.specs.declared.choice.Chosen.{Chosen}
-use Rattle.rules.specs.declared.choice.Chosen.TheVariants.{By, NoRule, NoTerm}
+use Rattle.rules.specs.declared.rule.Rule.{Rule}
 use Rattle.rules.specs.Facts.{facts}
 use Rattle.lines.specs.Line.{answer_of}
 use Rattle.tally.specs.declared.counts.Fed.{Fed}
@@ -11,10 +10,9 @@ use Rattle.tally.specs.Cell.{cell_of}
 use Rattle.tally.specs.Tally.{sum_of, limit, full_answer}
 
 -- the first of a rule's three cells, and of the two others
-abbrev pub first_by : Chosen → ℕ
-first_by (By r) = 3 * (facts r).index
-first_by NoRule = 51
-first_by NoTerm = 51
+abbrev pub first_by : Option Rule → ℕ
+first_by (Some r) = 3 * (facts r).index
+first_by None = 51
 
 -- how many more lines are counted
 unfoldable pub left_in : List ℕ → ℕ

@@ -1,9 +1,8 @@
 -- A tally is fed lines: each is answered, and one count goes up.
-use Rattle.std.specs.Prelude.{ℕ, ◌+◌, Bool, List, [], ◌∷◌, replicate, nat_le, slice_index, slice_set}
+use Rattle.std.specs.Prelude.{None, ℕ, ◌+◌, Bool, List, [], ◌∷◌, replicate, sum, nat_le, slice_index, slice_set}
 use Rattle.ascii.specs.Pick.{pick}
 use Rattle.answer.specs.declared.record.Answer.{Answer}
 use Rattle.answer.specs.declared.reason.Reason.TheVariants.{Full}
-use Rattle.answer.specs.declared.severity.Severity.TheVariants.{NoSeverity}
 use Rattle.answer.specs.Answers.{refused}
 use Rattle.lines.specs.Line.{answer_of}
 use Rattle.tally.specs.declared.counts.Fed.{Fed}
@@ -12,9 +11,8 @@ use Rattle.tally.specs.Cell.{tally_size, cell_of}
 abbrev pub fresh : List ℕ
 fresh = replicate tally_size 0
 
-unfoldable pub sum_of : List ℕ → ℕ
-sum_of [] = 0
-sum_of (c ∷ counts) = c + sum_of counts
+abbrev pub sum_of : List ℕ → ℕ
+sum_of counts = sum counts
 
 -- the lines that a tally counts at most
 abbrev pub limit : ℕ
@@ -24,7 +22,7 @@ unfoldable pub is_full : List ℕ → Bool
 is_full counts = nat_le limit (sum_of counts)
 
 abbrev pub full_answer : Answer
-full_answer = refused 0 NoSeverity Full
+full_answer = refused 0 None Full
 
 unfoldable pub one_more : List ℕ → ℕ → List ℕ
 one_more counts cell = slice_set counts cell (slice_index counts cell + 1)

@@ -6,25 +6,22 @@ ghost use Rattle.tally.specs.Inner.{first_by};
 
 use answer::{Answer, Verdict};
 
+#[tactic(auto, unfolding(ascii::specs::Pick::pick))]
 fn other_cell(verdict: Verdict) -> usize
     ensures { result ≡ other_cell verdict }
 {
     match verdict {
         Verdict::NoRule => 51,
-        Verdict::Accepted => 52,
-        Verdict::Refused => 52,
-        Verdict::Unread => 52,
+        _ => 52,
     }
 }
 
-// The first of the three cells of the rule that has a number. Two-digit numbers are one lookup; 561 is asked before it, and 562 is what is left.
+// The first of the three cells of the rule that has a number; 562 is what is left.
+#[tactic(auto, unfolding(ascii::specs::Pick::pick, rules::specs::Choice::rule_numbered))]
 fn first_cell(number: u32) -> usize
     requires { first_by (rule_numbered number) < 51 }
     ensures { result ≡ first_by (rule_numbered number) }
 {
-    if number == 561 {
-        return 45;
-    }
     match number {
         40 => 0,
         41 => 3,
@@ -41,6 +38,7 @@ fn first_cell(number: u32) -> usize
         54 => 36,
         55 => 39,
         57 => 42,
+        561 => 45,
         _ => 48,
     }
 }
@@ -54,5 +52,5 @@ pub(crate) fn cell(a: Answer) -> usize
     if a.rule == 0 {
         return other_cell(verdict);
     }
-    first_cell(a.rule) + (verdict.number() as usize) - 1
+    first_cell(a.rule) + (u32::from(verdict) as usize) - 1
 }

@@ -5,7 +5,7 @@ ghost use Rattle.tally.specs.Tally.{fresh, sum_of, full_answer, fed};
 ghost use Rattle.tally.specs.Inner.{left_in, raised, fed_if, fed_in};
 
 use super::cells::cell;
-use answer::{Answer, Reason, Severity};
+use answer::{Answer, Reason};
 
 // The lines that a tally counts at most.
 const LIMIT: u64 = 4294967295;
@@ -27,40 +27,32 @@ fn total(counts: &[u32]) -> u64
     requires { length counts.now ≤ tally_size }
     ensures { result ≡ sum_of counts.now }
 {
-    let mut sum: u64 = 0;
-    let mut i: usize = 0;
-    while i < counts.len() {
-        sum += counts[i] as u64;
-        i += 1;
-    }
-    sum
+    counts.iter().map(|count| u64::from(*count)).sum()
 }
 
+#[tactic(auto, unfolding(crate::specs::Inner::left_in))]
 // How many more lines are counted. That there are 53 counts, which their type says, is told to loops that cite it.
 pub fn left(counts: &[u32; 53]) -> u32
     ensures exact { result ≡ left_in counts.now }
     ensures size { length counts.now ≡ tally_size }
 {
-    let sum = total(counts);
-    if sum < LIMIT {
-        return (LIMIT - sum) as u32;
-    }
-    0
+    LIMIT.saturating_sub(total(counts)) as u32
 }
 
 // After a line that is fed.
 pub fn fewer(left: u32) -> u32
     ensures { result ≡ left - 1 }
 {
-    if left == 0 { 0 } else { left - 1 }
+    left.saturating_sub(1)
 }
 
 fn full_answer() -> Answer
     ensures { result ≡ full_answer }
 {
-    answer::refused(0, Severity::NoSeverity, Reason::Full)
+    answer::refused(0, None, Reason::Full)
 }
 
+#[tactic(auto, unfolding(crate::specs::Inner::raised))]
 fn raise(counts: &mut [u32], cell: usize)
     requires { cell < length counts.old }
     ensures { counts.new ≡ raised counts.old cell }
@@ -68,6 +60,7 @@ fn raise(counts: &mut [u32], cell: usize)
     counts[cell] = counts[cell].wrapping_add(1);
 }
 
+#[tactic(auto, using(crate::proofs::Answers::line_proper), unfolding(crate::specs::Inner::fed_if, ascii::specs::Pick::pick))]
 // Feeds a line to a tally of which the caller knows whether it is full: a loop over lines need not add up the counts for each.
 pub fn count(counts: &mut [u32; 53], full: bool, line: &[u8]) -> Answer
     ensures { fed_in result counts.new ≡ fed_if full counts.old line.now }
@@ -80,6 +73,7 @@ pub fn count(counts: &mut [u32; 53], full: bool, line: &[u8]) -> Answer
     a
 }
 
+#[tactic(auto, using(crate::proofs::Feeding::fed_by_left))]
 // Feeds a line, its newline left out, to a tally that the caller lends.
 pub fn feed_line(counts: &mut [u32; 53], line: &[u8]) -> Answer
     ensures { fed_in result counts.new ≡ fed counts.old line.now }

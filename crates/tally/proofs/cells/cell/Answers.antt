@@ -12,15 +12,15 @@ first_cell-requires c = (by_rule c.args.a c.requires c.if-a-eq0.false).first
 pub overflow_add-result : goal.overflow_add-result
 overflow_add-result c =
     let b = by_rule c.args.a c.requires c.if-a-eq0.false in
-    record { fits = omega (arith, b.first, c.first_cell.ensures, c.number.ensures, verdict_few c.args.a.verdict) }
+    record { fits = omega (arith, b.first, c.first_cell.ensures, c.from.ensures, verdict_few c.args.a.verdict) }
 
 pub overflow_sub-result : goal.overflow_sub-result
 overflow_sub-result c =
     let b = by_rule c.args.a c.requires c.if-a-eq0.false in
-    omega (arith, b.judged, c.number.ensures)
+    omega (arith, b.judged, c.from.ensures)
 
 pub returns : goal.returns
 returns c =
     let b = by_rule c.args.a c.requires c.if-a-eq0.false in
-    let w = rule_cell c.args.a b c.first_cell.ensures c.number.ensures in
+    let w = rule_cell c.args.a b c.first_cell.ensures c.from.ensures in
     record { told = w.0; below = w.1 }

@@ -1,10 +1,6 @@
 -- `tally::counts_text::put_lines` stores a line for each rule, and the others.
-use Rattle.std.proofs.Common.{◌-◌}
 use Rattle.tally.proofs.Texts.{Laying}
 use Rattle.tally.proofs.counts_text.put_lines.Given as goal
 
 abbrev pub invariant-loop-i : goal.invariant-loop-i
 invariant-loop-i l = Laying l.counts l.initial.out l.at l.out l.end l.i
-
-abbrev pub decreases-loop-i : goal.decreases-loop-i
-decreases-loop-i l = 17 - l.i
