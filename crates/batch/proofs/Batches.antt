@@ -1,32 +1,27 @@
 -- Many lines at once: what is written for the first of them, and what remains. Assumes nothing.
-use mathlib.Core.Path.{◌≡◌, refl, ap}
-use mathlib.Core.Bool.{true}
-use mathlib.Core.List.{List, [], ◌∷◌, ◌++◌}
-use Prim.Native.Nat.{ℕ, suc, ◌+◌, ◌-◌, ◌*◌, ◌/◌, ◌≤◌, ◌<◌}
-use native.Mathlib.Numerals.{add-one}
-use native.Mathlib.Omega.{arith}
-use lib.Dec.{eqb}
-use lib.ListN.{length, take, drop, set, length-append}
+use Rattle.std.proofs.Common.{◌≡◌, sym, ◌⊎◌, inl, inr, ℕ, suc, ◌+◌, ◌-◌, ◌*◌, ◌/◌, ◌<◌, ◌≤◌, List, [], ◌∷◌, ◌++◌, length, take, drop, refl, ap, ◌∙◌, true, arith, length-append, eqb}
+use Rattle.std.proofs.lemmas.Fn.{FoldsTo-push, chained_keeps}
+use Rattle.std.specs.List.{FoldsTo}
+use lib.Seq.{paste}
 use Rattle.ascii.specs.Area.{Put}
-use Rattle.ascii.proofs.Area.{put_stores}
+use Rattle.ascii.proofs.Area.{put_paste}
 use Rattle.answer.specs.declared.record.Answer.{Answer}
-use Rattle.answer.specs.Numbers.{verdict_number, severity_number, reason_number}
 use Rattle.answer.specs.Answers.{answer_numbers, in_turn}
 use Rattle.lines.specs.Line.{answer_of}
 use Rattle.lines.specs.Lines.{lines_of, answers_to}
-use Rattle.lines.proofs.Feeding.{First, Through, through_none, through_line, through_within, through_ended, Said, said_none, said_more, said_size}
-use Rattle.tally.specs.Tally.{replies, after}
+use Rattle.lines.proofs.Feeding.{First, Through, through_none, through_line, through_within, through_ended, Said, said_none, said_more, said_size, none_left, end_left}
+use Rattle.tally.specs.Tally.{replies}
 use Rattle.tally.specs.Inner.{fed_if, fed_in}
 use Rattle.tally.proofs.Running.{Running, running_reply, running_line}
 use Rattle.batch.specs.Batch.{numbers_each, batched, BatchRight, TallyRight}
+use Rattle.batch.specs.Inner.{AnswersNext, EachRight}
 
 -- ---- the numbers of an answer
 
--- stored one behind the other
-pub put_numbers : (a : Answer) (l : List ℕ) (at v s w : ℕ) → at + numbers_each ≤ length l → v ≡ verdict_number a.verdict → s ≡ severity_number a.severity → w ≡ reason_number a.reason
-    → Put numbers_each l at (answer_numbers a) (at + 1 + 1 + 1 + 1) (set (set (set (set l at v) (at + 1) a.rule) (at + 1 + 1) s) (at + 1 + 1 + 1) w)
+pub put_numbers : (a : Answer) (l new : List ℕ) (at end : ℕ) → at + numbers_each ≤ length l → end ≡ at + numbers_each → new ≡ paste l at (answer_numbers a) numbers_each
+    → Put numbers_each l at (answer_numbers a) end new
 unfolding answer_numbers
-put_numbers a l at v s w h ev es ew = rw (← ev, ← es, ← ew) (put_stores (simp add-one) (omega arith) (omega arith) (omega arith))
+put_numbers a l new at end h e k = record { now = k ∙ put_paste l at (answer_numbers a) numbers_each (omega arith); ends = e; few = omega arith }
 
 numbers_long : (xs : List Answer) → length (in_turn answer_numbers xs) ≡ numbers_each * length xs
 unfolding in_turn answer_numbers
@@ -35,119 +30,113 @@ numbers_long (a ∷ xs) = omega (arith, numbers_long xs)
 
 -- ---- line by line
 
--- `says` tells how lines are answered; the lines that are done are answered, and there is room for so many more as are left
-pub record Batching (says : List (List ℕ) → List Answer) (s o new : List ℕ) (used put left : ℕ) (done : List (List ℕ)) : Type 0 where
+-- calls have answered the lines that are done, and there is room for so many more as are left
+pub record Batching {F : Type 0} (called : F → List ℕ → Answer → F → Type 0) (f f' : F) (s o new : List ℕ) (used put : ℕ) : Type 0 where
+  pub left : ℕ
+  pub done : List (List ℕ)
+  pub answers : List Answer
   pub through : Through true (length o / numbers_each) s used left done
-  pub said : Said answer_numbers numbers_each o (says done) put new
-  pub each : length (says done) ≡ length done
+  pub said : Said answer_numbers numbers_each o answers put new
+  pub each : length answers ≡ length done
+  pub calls : FoldsTo (AnswersNext called) (f, []) done (f', answers)
 
-module _ {says : List (List ℕ) → List Answer} {s o new : List ℕ} {used put left : ℕ} {done : List (List ℕ)} (b : Batching says s o new used put left done) where
-  pub put_exact : put ≡ numbers_each * length done
-  put_exact = omega (arith, b.said.ends, numbers_long (says done), b.each)
+pub batching_none : {F : Type 0} (called : F → List ℕ → Answer → F → Type 0) (f : F) (s o : List ℕ) → Batching called f f s o o 0 0
+batching_none called f s o =
+    record {
+      left = length o / numbers_each;
+      done = [];
+      answers = [];
+      through = through_none true (length o / numbers_each) s;
+      said = said_none answer_numbers numbers_each o;
+      each = refl;
+      calls = refl;
+    }
 
-  pub in_room : numbers_each * length (says done) ≤ length o
+module _ {F : Type 0} {called : F → List ℕ → Answer → F → Type 0} {f f' : F} {s o new : List ℕ} {used put : ℕ} (b : Batching called f f' s o new used put) where
+  put_exact : put ≡ numbers_each * length b.done
+  put_exact = omega (arith, b.said.ends, numbers_long b.answers, b.each)
+
+  in_room : numbers_each * length b.answers ≤ length o
   in_room = omega (arith, b.each, b.through.number)
 
-  pub batch_size : length new ≡ length o
-  batch_size = said_size answer_numbers numbers_each (says done) in_room b.said
+  pub batching_size : length new ≡ length o
+  batching_size = said_size answer_numbers numbers_each b.answers in_room b.said
 
-  pub batch_fits : put ≤ length new
-  batch_fits = omega (arith, put_exact, in_room, b.each, batch_size)
+  pub batching_fits : put ≤ length new
+  batching_fits = omega (arith, put_exact, in_room, b.each, batching_size)
 
-  pub batch_within : used ≤ length s
-  batch_within = through_within true (length o / numbers_each) s used left done b.through
+  pub batching_within : used ≤ length s
+  batching_within = through_within true (length o / numbers_each) s used b.left b.done b.through
 
-  -- the area is full
-  pub batch_full : length new - put < numbers_each → left ≡ 0
-  batch_full h = omega (arith, put_exact, batch_size, b.through.number)
-
-  module _ (l : List ℕ) (m : ℕ) (a : Answer) {put' : ℕ} {new' : List ℕ} (f : First true (drop used s) l m) (h : numbers_each ≤ length new - put)
-      (ea : says (done ++ l ∷ []) ≡ says done ++ a ∷ []) (p : Put numbers_each new put (answer_numbers a) put' new') where
-    one_left : left ≡ suc (left - 1)
-    one_left = omega (arith, put_exact, batch_size, b.through.number)
-
-    pub batch_line : Batching says s o new' (used + m) put' (left - 1) (done ++ l ∷ [])
-    batch_line =
-        record {
-          through = through_line true (length o / numbers_each) s used left done b.through l m (left - 1) f one_left;
-          said = rw ea (said_more answer_numbers numbers_each (says done) a in_room b.said p);
-          each = rw ea (omega (arith, length-append (says done) (a ∷ []), length-append done (l ∷ []), b.each));
-        }
-
-  -- no line is left
-  pub batch_right : take left (lines_of (drop used s)) ≡ [] → BatchRight says s o new (put / numbers_each) used
-  unfolding batched
-  batch_right e =
-      let d = through_ended true (length o / numbers_each) s used left done b.through e in
+  pub batching_line : (l : List ℕ) (m : ℕ) (a : Answer) (f'' : F) {put' : ℕ} {new' : List ℕ} → First true (drop used s) l m → numbers_each ≤ length new - put
+      → called f' l a f'' → Put numbers_each new put (answer_numbers a) put' new' → Batching called f f'' s o new' (used + m) put'
+  batching_line l m a f'' t h c p =
+      let one_left : b.left ≡ suc (b.left - 1) = omega (arith, put_exact, batching_size, b.through.number) in
       record {
-        wrote = rw (← d.all) b.said.now;
-        counted = rw (← d.all) (omega (arith, put_exact));
-        spans = d.bytes;
+        left = b.left - 1;
+        done = b.done ++ l ∷ [];
+        answers = b.answers ++ a ∷ [];
+        through = through_line true (length o / numbers_each) s used b.left b.done b.through l m (b.left - 1) t one_left;
+        said = said_more answer_numbers numbers_each b.answers a in_room b.said p;
+        each = omega (arith, length-append b.answers (a ∷ []), length-append b.done (l ∷ []), b.each);
+        calls = FoldsTo-push (AnswersNext called) (f, []) b.done (f', b.answers) l (f'', b.answers ++ a ∷ []) b.calls (a, c, refl);
       }
 
-  pub batch_tallied : take left (lines_of (drop used s)) ≡ [] → (counts : List ℕ) {counts' : List ℕ} → counts' ≡ after counts done → counts' ≡ after counts (batched (length o) s)
-  unfolding batched
-  batch_tallied e counts c = rw (← (through_ended true (length o / numbers_each) s used left done b.through e).all) c
+  -- no line is left, or no room
+  last : (length s ≤ used) ⊎ (length new - put < numbers_each) → take b.left (lines_of (drop used s)) ≡ []
+  last (inl h) = end_left b.left used true s h
+  last (inr h) = none_left b.left _ (omega (arith, put_exact, batching_size, b.through.number))
 
--- ---- lines that are answered each by itself
+  pub batching_right : (length s ≤ used) ⊎ (length new - put < numbers_each) → EachRight called f f' s o new (put / numbers_each) used
+  unfolding batched
+  batching_right e =
+      let d = through_ended true (length o / numbers_each) s used b.left b.done b.through (last e) in
+      record {
+        answers = b.answers;
+        calls = rw (← d.all) b.calls;
+        batch = record { wrote = b.said.now; counted = rw (← d.all) (omega (arith, put_exact)); spans = d.bytes };
+      }
+
+-- ---- what the calls answer
 
 answers_more : (ls : List (List ℕ)) (l : List ℕ) → answers_to (ls ++ l ∷ []) ≡ answers_to ls ++ answer_of l ∷ []
 unfolding answers_to
 answers_more [] l = refl
 answers_more (k ∷ ls) l = ap (λ (xs : List Answer). answer_of k ∷ xs) (answers_more ls l)
 
-pub record Answering (s o new : List ℕ) (used put : ℕ) : Type 0 where
-  pub left : ℕ
-  pub done : List (List ℕ)
-  pub batch : Batching answers_to s o new used put left done
+module _ {F : Type 0} {called : F → List ℕ → Answer → F → Type 0} {f f' : F} {s o new : List ℕ} {n used : ℕ} (e : EachRight called f f' s o new n used) where
+  -- where each call answers its line by itself
+  pub each_alone : ((p q : F) (l : List ℕ) (a : Answer) → called p l a q → a ≡ answer_of l) → BatchRight answers_to s o new n used
+  unfolding answers_to
+  each_alone says =
+      let same : e.answers ≡ answers_to (batched (length o) s) =
+      chained_keeps (AnswersNext called) (λ ls q. q.1 ≡ answers_to ls) (λ ls q l v h c. c.2 ∙ rw (h, says q.0 v.0 l c.0 c.1, ← answers_more ls l) refl)
+      (batched (length o) s) (f, []) (f', e.answers) refl e.calls in
+      record { wrote = rw same at e.batch.wrote; counted = e.batch.counted; spans = e.batch.spans }
 
-pub answering_none : (s o : List ℕ) → Answering s o o 0 0
-unfolding answers_to
-answering_none s o =
-    record {
-      left = length o / numbers_each;
-      done = [];
-      batch = record { through = through_none true (length o / numbers_each) s; said = said_none answer_numbers numbers_each o; each = refl };
-    }
+  -- what no call changes
+  pub each_keeps : {X : Type 0} (part : F → X) → ((p q : F) (l : List ℕ) (a : Answer) → called p l a q → part q ≡ part p) → part f' ≡ part f
+  each_keeps part keeps =
+      chained_keeps (AnswersNext called) (λ ls q. part q.0 ≡ part f) (λ ls q l v h c. keeps q.0 v.0 l c.0 c.1 ∙ h)
+      (batched (length o) s) (f, []) (f', e.answers) refl e.calls
 
-pub answering_line : {s o new new' : List ℕ} {used put put' m : ℕ} (l : List ℕ) (a : Answer) (i : Answering s o new used put) → First true (drop used s) l m
-    → numbers_each ≤ length new - put → a ≡ answer_of l → Put numbers_each new put (answer_numbers a) put' new' → Answering s o new' (used + m) put'
-answering_line {m = m} l a i f h ea p =
-    record {
-      left = i.left - 1;
-      done = i.done ++ l ∷ [];
-      batch = batch_line i.batch l m a f h (rw ea (answers_more i.done l)) p;
-    }
+  -- where each call feeds its line to a tally, which the state of the calls holds, and how many more lines are counted
+  module _ (counts : F → List ℕ) (more : F → ℕ)
+      (feeds : (p q : F) (l : List ℕ) (a : Answer) → called p l a q → (fed_in a (counts q) ≡ fed_if (eqb (more p) 0) (counts p) l) × (more q ≡ more p - 1)) where
+    record Fed (ls : List (List ℕ)) (q : F × List Answer) : Type 0 where
+      pub answered : q.1 ≡ replies (counts f) ls
+      pub running : Running (counts f) (counts q.0) (more q.0) ls
 
--- ---- lines that are fed to a tally
+    fed_next : (ls : List (List ℕ)) (q : F × List Answer) (l : List ℕ) (v : F × List Answer) → Fed ls q → AnswersNext called q l v → Fed (ls ++ l ∷ []) v
+    fed_next ls q l v h c =
+        let k = feeds q.0 v.0 l c.0 c.1 in
+        record { answered = c.2 ∙ rw h.answered (sym (running_reply l h.running k.0)); running = running_line l h.running k.0 k.1 }
 
-pub record Tallying (s counts₀ counts o new : List ℕ) (more used put : ℕ) : Type 0 where
-  pub left : ℕ
-  pub done : List (List ℕ)
-  pub batch : Batching (replies counts₀) s o new used put left done
-  pub running : Running counts₀ counts more done
-
-pub tallying_none : (s counts o : List ℕ) (more : ℕ) → Running counts counts more [] → Tallying s counts counts o o more 0 0
-unfolding replies
-tallying_none s counts o more r =
-    record {
-      left = length o / numbers_each;
-      done = [];
-      batch = record { through = through_none true (length o / numbers_each) s; said = said_none answer_numbers numbers_each o; each = refl };
-      running = r;
-    }
-
-pub tallying_line : {s counts₀ counts counts' o new new' : List ℕ} {more more' used put put' m : ℕ} (l : List ℕ) (a : Answer) (i : Tallying s counts₀ counts o new more used put)
-    → First true (drop used s) l m → numbers_each ≤ length new - put → fed_in a counts' ≡ fed_if (eqb more 0) counts l → more' ≡ more - 1
-    → Put numbers_each new put (answer_numbers a) put' new' → Tallying s counts₀ counts' o new' more' (used + m) put'
-tallying_line {m = m} l a i f h e em p =
-    record {
-      left = i.left - 1;
-      done = i.done ++ l ∷ [];
-      batch = batch_line i.batch l m a f h (running_reply l i.running e) p;
-      running = running_line l i.running e em;
-    }
-
-pub tally_right : {s counts₀ counts o new : List ℕ} {more used put : ℕ} (i : Tallying s counts₀ counts o new more used put)
-    → take i.left (lines_of (drop used s)) ≡ [] → TallyRight s counts₀ counts o new (put / numbers_each) used
-tally_right {counts₀ = counts₀} i e = record { batch = batch_right i.batch e; tallied = batch_tallied i.batch e counts₀ i.running.counted }
+    pub each_tallied : {counts' : List ℕ} → counts' ≡ counts f' → Running (counts f) (counts f) (more f) [] → TallyRight s (counts f) counts' o new n used
+    unfolding replies
+    each_tallied left r =
+        let h = chained_keeps (AnswersNext called) Fed fed_next (batched (length o) s) (f, []) (f', e.answers) (record { answered = refl; running = r }) e.calls in
+        record {
+          batch = record { wrote = rw h.answered at e.batch.wrote; counted = e.batch.counted; spans = e.batch.spans };
+          tallied = left ∙ h.running.counted;
+        }

@@ -1,2 +1,3 @@
 -- Many lines answered at once.
 pub mod Batch
+pub mod Inner

@@ -2,9 +2,9 @@
 #![tactic(auto)]
 
 mod answers;
-mod numbers;
+mod each;
 mod tallied;
 
 pub use answers::answer_lines;
-pub use numbers::Batch;
+pub use each::Batch;
 pub use tallied::tally_lines;
