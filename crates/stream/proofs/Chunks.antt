@@ -5,13 +5,10 @@ use mathlib.Core.List.{List, [], ◌∷◌, ◌++◌, append_assoc, append-nil}
 use Prim.Native.Nat.{ℕ, zero, suc, ◌+◌, ◌/◌, ◌≤◌, ◌<◌, min}
 use native.Mathlib.Omega.{arith}
 use lib.Dec.{ltb}
-use lib.ListN.{length, take, drop, length-append, length-take, length-drop}
+use lib.ListN.{length, take, drop, length-append, length-drop}
 use lib.Seq.{drop-drop, length-take-le}
 use borrow.Author.Tests.{le-leb, ltb-true, ltb-false}
 use Rattle.ascii.specs.Area.{joined}
-use Rattle.ascii.specs.Pick.{pick}
-use Rattle.ascii.specs.Class.{among}
-use Rattle.ascii.specs.Written.{newline}
 use Rattle.answer.specs.Text.{answer_text, answer_room}
 use Rattle.lines.specs.Line.{line_bytes, answer_of}
 use Rattle.lines.specs.Lines.{lines_of, ended, extent, spanned}
@@ -24,7 +21,7 @@ use Rattle.tally.specs.Text.{tally_text}
 use Rattle.tally.proofs.Running.{replies_append, after_append}
 use Rattle.stream.specs.Output.{answers_text, told, output}
 use Rattle.stream.specs.Turn.{fitting, clipped, kept_of, is_over, closing_room, closes, turn_counts, turn_writes, Run, over, next}
-use Rattle.stream.proofs.Windows.{fitting_some, fitting_open, clipped_line, clipped_open}
+use Rattle.stream.proofs.Windows.{fitting_some, fitting_open, clipped_line, clipped_open, clipped_le}
 use Rattle.stream.proofs.Turns.{over_none, closes_writes, next_writes, next_counts, not_over, nothing_open, kept_none}
 
 -- ---- lines that are told one after the other
@@ -163,10 +160,6 @@ pub record Ends (room : ℕ) (counts kept : List ℕ) : Type 0 where
   pub turns : ℕ
   pub out : List ℕ
   pub run : Run room counts kept (silent turns) out
-
-clipped_le : (s : List ℕ) → length (clipped s) ≤ length s
-unfolding clipped pick
-clipped_le s = by (among newline s) (λ e. rw e (omega arith)) (λ e. rw e (omega (arith, length-take line_bytes s)))
 
 -- a turn that answers a line keeps less
 shorter : (room : ℕ) (s : List ℕ) → answer_room ≤ room → upto s < length s → length (kept_of room s) < length s

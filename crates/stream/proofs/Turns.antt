@@ -17,7 +17,7 @@ use Rattle.answer.specs.Text.{numbers_text, field, numeral, answer_text, answer_
 use Rattle.lines.specs.Line.{line_bytes}
 use Rattle.lines.specs.Lines.{lines_of, extent, spanned}
 use Rattle.lines.specs.Inner.{upto}
-use Rattle.lines.proofs.Heads.{take_least}
+use Rattle.std.proofs.lemmas.List.{take_min}
 use Rattle.lines.proofs.Splits.{by, Open, upto_le, open_take}
 use Rattle.tally.specs.Tally.{fed, replies, after}
 use Rattle.tally.proofs.Running.{after_none}
@@ -162,5 +162,5 @@ module _ (s b b' o o' counts counts' : List ℕ) (fresh kept put : ℕ) (st : St
         }
 
 -- the part of the buffer that is input
-pub same_window : (b : List ℕ) (n m : ℕ) → n ≡ min (length b) m → take n b ≡ take m b
-same_window b n m e = rw (e, take_least b m)
+pub same_window : (b : List ℕ) (n m : ℕ) → n ≡ min m (length b) → take n b ≡ take m b
+same_window b n m e = rw (e, take_min m b)

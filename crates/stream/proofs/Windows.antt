@@ -2,23 +2,24 @@
 use mathlib.Core.Path.{◌≡◌, refl, sym, ◌∙◌, ap}
 use mathlib.Core.Bool.{true, false}
 use mathlib.Core.List.{List, [], ◌∷◌, ◌++◌, append-nil}
-use Prim.Native.Nat.{ℕ, suc, ◌+◌, ◌-◌, ◌*◌, ◌/◌, ◌≤◌, ◌<◌}
-use native.Mathlib.Nat.{add_comm, zero-add}
-use native.Mathlib.Numerals.{add-one}
+use Prim.Native.Nat.{ℕ, suc, ◌+◌, ◌-◌, ◌*◌, ◌/◌, ◌≤◌, ◌<◌, min}
 use native.Mathlib.Omega.{arith}
 use lib.Dec.{leb, ltb}
-use lib.ListN.{length, take, drop, get_or, set, length-take, length-drop}
-use lib.Seq.{take_all, take-take, length-take-le, get_or-append-add, get_or-drop, paste-suc}
+use lib.ListN.{length, take, drop, length-take, length-drop}
+use lib.Seq.{take-length, take-take, length-take-le}
 use borrow.Author.Tests.{le-leb, ltb-true, ltb-false}
 use Rattle.ascii.specs.Area.{Put}
 use Rattle.ascii.specs.Pick.{pick}
-use Rattle.ascii.proofs.Area.{put_none, put_start, put_size, put_more, put_most}
+use Rattle.ascii.proofs.Area.{put_none, put_size, put_more, put_most, put_paste}
 use Rattle.answer.specs.Answers.{in_turn}
 use Rattle.answer.specs.Text.{answer_text, answer_room}
 use Rattle.lines.specs.Line.{line_bytes}
 use Rattle.lines.specs.Lines.{lines_of, ended, extent, spanned}
 use Rattle.lines.specs.Inner.{upto}
-use Rattle.lines.proofs.Heads.{drop_take}
+use Rattle.std.proofs.lemmas.List.{drop-take, take_min}
+use Rattle.std.specs.List.{copy_within}
+use Rattle.ascii.specs.Class.{among}
+use Rattle.ascii.specs.Written.{newline}
 use Rattle.lines.proofs.Splits.{by, Open, upto_le, split_none, ended_line, among_line, among_open, lines_open, fronted_alone}
 use Rattle.lines.proofs.Feeding.{First, Through, through_none, through_line, through_within, through_ended, Said, said_none, said_more, said_size, part_tail, open_left}
 use Rattle.tally.specs.declared.counts.Fed.{Fed}
@@ -38,15 +39,16 @@ pub record Streaming (s counts₀ counts o new : List ℕ) (more room used put :
   pub said : Said answer_text answer_room o (replies counts₀ done) put new
   pub running : Running counts₀ counts more done
 
-pub streaming_none : (s counts o : List ℕ) (more : ℕ) → Running counts counts more [] → Streaming s counts counts o o more (length o / answer_room) 0 0
+pub streaming_none : (s counts o : List ℕ) (more room : ℕ) → room ≡ length o / answer_room → Running counts counts more [] → Streaming s counts counts o o more room 0 0
 unfolding replies
-streaming_none s counts o more r =
-    record {
+streaming_none s counts o more room e r =
+    rw e
+    (record {
       done = [];
       through = through_none false (length o / answer_room) s;
       said = said_none answer_text answer_room o;
       running = r;
-    }
+    })
 
 module _ {s counts₀ counts o new : List ℕ} {more room used put : ℕ} (i : Streaming s counts₀ counts o new more room used put) where
   each : length (replies counts₀ i.done) ≡ length i.done
@@ -100,36 +102,22 @@ pub clipped_open : (s : List ℕ) → Open s → clipped s ≡ take line_bytes s
 unfolding clipped pick
 clipped_open s o = rw (among_open s o)
 
-pub clipped_short : (s : List ℕ) → length s ≤ line_bytes → clipped s ≡ s
-clipped_short s h =
-    by (ltb (upto s) (length s)) (λ e. clipped_line s (ltb-true _ _ e))
-    (λ e. clipped_open s (omega (arith, upto_le s, ltb-false (upto s) (length s) e)) ∙ take_all line_bytes s h)
+pub clipped_le : (s : List ℕ) → length (clipped s) ≤ length s
+unfolding clipped pick
+clipped_le s = by (among newline s) (λ e. rw e (omega arith)) (λ e. rw e (omega (arith, length-take line_bytes s)))
 
--- ---- moving to the front
+clipped_front : (s : List ℕ) → take (length (clipped s)) s ≡ clipped s
+unfolding clipped pick
+clipped_front s = by (among newline s) (λ e. rw e (take-length s)) (λ e. rw (e, length-take line_bytes s) (take_min line_bytes s))
 
-pub shift_step : (b : List ℕ) (from i : ℕ) → from + i < length b
-    → set (take i (drop from b) ++ drop i b) i (get_or (take i (drop from b) ++ drop i b) (from + i) 0)
-    ≡ take (i + 1) (drop from b) ++ drop (i + 1) b
-shift_step b from i h =
-    let q : i < length (drop from b) = omega (arith, length-drop from b) in
-    let q' : 0 + i < length b = omega arith in
-    let n : length (take i (drop from b)) ≡ i = length-take-le i (drop from b) (omega arith) in
-    let v : get_or (take i (drop from b) ++ drop i b) (from + i) 0 ≡ get_or (drop from b) i 0 =
-    ap (λ (k : ℕ). get_or (take i (drop from b) ++ drop i b) k 0) (add_comm from i ∙ ap (λ (k : ℕ). k + from) (sym n))
-    ∙ get_or-append-add (take i (drop from b)) (drop i b) from 0
-    ∙ get_or-drop i b from 0
-    ∙ ap (λ (k : ℕ). get_or b k 0) (add_comm i from)
-    ∙ sym (get_or-drop from b i 0) in
-    rw v (simp (zero-add, ← add-one) at (paste-suc b 0 (drop from b) i 0 q' q))
+-- by where the first newline stands
+pub clipped_ended : (s : List ℕ) (n : ℕ) → n ≡ upto s → n < length s → s ≡ clipped s
+clipped_ended s n e h = sym (clipped_line s (omega arith))
 
-pub shifted : (b b' : List ℕ) (from n : ℕ) → from + n ≤ length b → b' ≡ take n (drop from b) ++ drop n b → Put n b 0 (take n (drop from b)) n b'
-shifted b b' from n h e =
-    let l : length (take n (drop from b)) ≡ n = length-take-le n (drop from b) (omega (arith, length-drop from b)) in
-    record {
-      now = e ∙ sym (put_start b (take n (drop from b)) ∙ ap (λ (k : ℕ). take n (drop from b) ++ drop k b) l);
-      ends = omega arith;
-      few = omega arith;
-    }
+pub clipped_part : (s : List ℕ) (n m : ℕ) → n ≡ upto s → length s ≤ n → m ≡ min (length s) line_bytes → take m s ≡ clipped s
+clipped_part s n m e h k =
+    let o : m ≡ min line_bytes (length s) = omega arith in
+    rw (o, take_min line_bytes s) (sym (clipped_open s (omega (arith, upto_le s))))
 
 -- ---- one step
 
@@ -152,23 +140,41 @@ spans_open : (room : ℕ) (s : List ℕ) → Open s → spanned s (fitting room 
 unfolding spanned extent
 spans_open room s o = rw (fitting_open room s o) (omega arith)
 
+-- what is kept of the window stands in the buffer
+pub keep_fits : (b k : List ℕ) (n used : ℕ) → n ≤ length b → used ≤ length (take n b) → k ≡ clipped (take (n - used) (drop used b)) → used + length k ≤ length b
+keep_fits b k n used h within e =
+    let part = take (n - used) (drop used b) in
+    omega (arith, ap length e, clipped_le part, length-take (n - used) (drop used b), length-take-le n b h)
+
 module _ (b b' o o' counts counts' : List ℕ) (n used put keep : ℕ) (h : n ≤ length b)
     (fed : FedRight (take n b) counts counts' o o' used put) (within : used ≤ length (take n b))
-    (ek : keep ≡ length (clipped (take (n - used) (drop used b)))) (inside : keep ≤ length (take (n - used) (drop used b)))
-    (front : take keep (take (n - used) (drop used b)) ≡ clipped (take (n - used) (drop used b)))
-    (moved : Put keep b 0 (take keep (drop used b)) keep b') where
+    (ek : keep ≡ length (clipped (take (n - used) (drop used b)))) (moved : b' ≡ copy_within b used (used + keep) 0) where
   n_length : length (take n b) ≡ n
   n_length = length-take-le n b h
 
   rest : drop used (take n b) ≡ take (n - used) (drop used b)
-  rest = drop_take used n b
+  rest =
+      let e : n ≡ used + (n - used) = omega (arith, within, n_length) in
+      ap (λ (k : ℕ). drop used (take k b)) e ∙ drop-take used (n - used) b
 
   keep_le : keep ≤ n - used
-  keep_le = omega (arith, inside, ap length rest, length-drop used (take n b), n_length)
+  keep_le = omega (arith, ek, clipped_le (take (n - used) (drop used b)), ap length rest, length-drop used (take n b), n_length)
 
   kept : kept_of (length o) (take n b) ≡ take keep (drop used b)
   unfolding kept_of
-  kept = rw (← fed.spans, rest) (sym front ∙ take-take keep (n - used) (drop used b) keep_le)
+  kept =
+      let front : take keep (take (n - used) (drop used b)) ≡ clipped (take (n - used) (drop used b)) = rw ek (clipped_front _) in
+      rw (← fed.spans, rest) (sym front ∙ take-take keep (n - used) (drop used b) keep_le)
+
+  held : Put keep b 0 (take keep (drop used b)) keep b'
+  held =
+      let room : keep ≤ length (drop used b) = omega (arith, keep_le, h, length-drop used b) in
+      let k : used + keep - used ≡ keep = omega arith in
+      record {
+        now = rw k at moved ∙ put_paste b 0 (drop used b) keep room;
+        ends = omega (arith, length-take-le keep (drop used b) room);
+        few = omega (arith, length-take-le keep (drop used b) room);
+      }
 
   moves : line_bytes < length b → answer_room ≤ length o → keep < length b
   moves big room =
@@ -186,7 +192,7 @@ module _ (b b' o o' counts counts' : List ℕ) (n used put keep : ℕ) (h : n �
       record {
         written = fed.written;
         tallied = fed.tallied;
-        held = rw kept (put_most moved (omega (arith, moved.few, keep_le)));
+        held = rw kept (put_most held (omega (arith, held.few, keep_le)));
         moves = moves;
       }
 

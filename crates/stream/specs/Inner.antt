@@ -1,5 +1,5 @@
 -- What the contracts of inner functions cite; no rule cites it.
-use Rattle.std.specs.Prelude.{◌≡◌, List, ℕ, ◌≤◌, ◌<◌, eqb, length}
+use Rattle.std.specs.Prelude.{◌≡◌, List, ℕ, ◌≤◌, ◌<◌, ◌==◌, length}
 use Rattle.ascii.specs.Area.{Put}
 use Rattle.answer.specs.declared.record.Answer.{Answer}
 use Rattle.answer.specs.Text.{answer_text, answer_room}
@@ -13,7 +13,7 @@ use Rattle.stream.specs.Turn.{fitting, kept_of, closing_room}
 -- a line is fed to a tally that counts `more` lines, and its answer is written from `at` on
 pub record LineRight (more : ℕ) (line counts counts' out out' : List ℕ) (at end : ℕ) : Type 0 where
   pub answer : Answer
-  pub fed : fed_in answer counts' ≡ fed_if (eqb more 0) counts line
+  pub fed : fed_in answer counts' ≡ fed_if (more == 0) counts line
   pub written : Put answer_room out at (answer_text answer) end out'
 
 -- the whole lines of s are answered, as many as there is room for: `used` bytes of it

@@ -1,5 +1,5 @@
 -- The program: a turn over a window s of the input, with a tally and an output area of `room` bytes, and a run of turns.
-use Rattle.std.specs.Prelude.{◌≡◌, Bool, true, false, ◌&&◌, List, [], ◌∷◌, ◌++◌, ℕ, ◌+◌, ◌/◌, ◌≤◌, ◌<◌, leb, eqb, length, take, drop}
+use Rattle.std.specs.Prelude.{◌≡◌, Bool, true, false, ◌&&◌, List, [], ◌∷◌, ◌++◌, ℕ, ◌+◌, ◌/◌, ◌≤◌, ◌<◌, ◌==◌, nat_le, length, take, drop}
 use Rattle.ascii.specs.Area.{Put}
 use Rattle.ascii.specs.Pick.{pick}
 use Rattle.ascii.specs.Class.{among}
@@ -25,7 +25,7 @@ kept_of room s = clipped (drop (spanned s (fitting room s)) s)
 
 -- `got` bytes of s were just read; none means that the input has ended. Where no whole line is answered then, the turn is over
 unfoldable pub is_over : ℕ → ℕ → List ℕ → Bool
-is_over room got s = eqb got 0 && eqb (length (fitting room s)) 0
+is_over room got s = got == 0 && length (fitting room s) == 0
 
 -- the bytes that the end takes at most: an answer, and the text of the tally
 abbrev pub closing_room : ℕ
@@ -33,7 +33,7 @@ closing_room = answer_room + tally_room
 
 -- the turn that is over writes the end, where there is room
 unfoldable pub closes : ℕ → ℕ → List ℕ → Bool
-closes room got s = is_over room got s && leb closing_room room
+closes room got s = is_over room got s && nat_le closing_room room
 
 -- the lines that a turn answers: whole lines, and in the end the last one, which no newline ends
 unfoldable pub turn_lines : ℕ → ℕ → List ℕ → List (List ℕ)

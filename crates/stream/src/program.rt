@@ -1,21 +1,13 @@
 // The program's turn: whole lines, and in the end the last one and the counts.
-ghost use Rattle.std.specs.Prelude.{◌≡◌, ◌+◌, min, take};
+ghost use Rattle.std.specs.Prelude.{◌≡◌, ◌+◌, take};
 ghost use Rattle.stream.specs.Turn.{TurnRight};
 
-use super::window::{close, step};
-use lines::least;
+use super::window::{Stepped, close, step};
 
 // The bytes that the end takes at most: an answer, and the text of the tally.
 const CLOSING_ROOM: usize = 786;
 
-// How far the input stands in a buffer of so many bytes.
-fn window_len(most: usize, kept: usize, fresh: usize) -> usize
-    ensures { result ≡ min most (kept + fresh) }
-{
-    let start = least(most, kept);
-    start + least(most - start, fresh)
-}
-
+// Not an Option of what is kept: TurnRight says what is kept where the turn is over, too.
 #[derive(Clone, Copy)]
 pub struct Turned {
     pub kept: usize,
@@ -36,10 +28,8 @@ pub fn turn(
 ) -> Turned
     ensures { TurnRight (take (kept + fresh) buf.old) fresh buf.old buf.new out.old out.new counts.old counts.new result.kept result.put result.over }
 {
-    let n = window_len(buf.len(), kept, fresh);
-    let done = step(buf, n, out, counts);
-    let next = done.kept;
-    let put = done.put;
+    let n = kept.saturating_add(fresh).min(buf.len());
+    let Stepped { kept: next, put } = step(buf, n, out, counts);
     let over = (fresh == 0) & (put == 0);
     let closes = over & (CLOSING_ROOM <= out.len());
     if closes {

@@ -16,7 +16,7 @@ fn digit(d: u32) -> u8
     (48 + d) as u8
 }
 
-// A number of an answer, of at most three digits: a tally's are written by `tally::put_text`, digit by digit.
+// A number of an answer, of at most three digits. `answer::put_numeral` calls itself for each further digit, and with it an answer takes half as long again.
 fn put_number(out: &mut [u8], at: usize, n: u32) -> usize
     requires room { at + 3 ≤ length out.old }
     requires small { n < 1000 }
@@ -58,14 +58,11 @@ fn put_answer(a: Answer, out: &mut [u8], at: usize) -> usize
     requires small { a.rule < 1000 }
     ensures { Put answer_room out.old at (answer_text a) result out.new }
 {
-    let verdict = a.verdict;
-    let rule = a.rule;
-    let severity = a.severity;
-    let reason = a.reason;
-    let k = put_field(out, at, verdict.number(), b' ');
+    let [verdict, rule, severity, reason] = a.numbers();
+    let k = put_field(out, at, verdict, b' ');
     let m = put_field(out, k, rule, b' ');
-    let n = put_field(out, m, severity.number(), b' ');
-    put_field(out, n, reason.number(), b'\n')
+    let n = put_field(out, m, severity, b' ');
+    put_field(out, n, reason, b'\n')
 }
 
 // Feeds a line to a tally that counts so many more lines, and stores its answer. One function, so that the answer need not go through memory.

@@ -7,11 +7,8 @@ ghost use Rattle.stream.specs.Turn.{clipped, closing_room};
 ghost use Rattle.stream.specs.Inner.{FedRight, StepRight, LastRight, ClosedRight};
 
 use super::put::{ANSWER_ROOM, put_line};
-use lines::line_len;
+use lines::{LINE_BYTES, line_len};
 use tally::{fewer, left, put_text};
-
-// The bytes that are read of a line: 8 of its head, and one more of its content than a rule may read.
-const LINE_BYTES: usize = 1033;
 
 #[derive(Clone, Copy)]
 struct Fed {
@@ -25,10 +22,9 @@ fn feed(s: &[u8], out: &mut [u8], counts: &mut [u32; 53]) -> Fed
     ensures within { result.used ≤ length s.now }
 {
     let mut more = left(counts);
-    let mut room = out.len() / ANSWER_ROOM;
     let mut used = 0;
     let mut put = 0;
-    while room > 0 {
+    for _ in 0..out.len() / ANSWER_ROOM {
         let rest = &s[used..];
         let n = line_len(rest);
         if n == rest.len() {
@@ -36,38 +32,20 @@ fn feed(s: &[u8], out: &mut [u8], counts: &mut [u32; 53]) -> Fed
         }
         put = put_line(&rest[..n], out, put, counts, more);
         more = fewer(more);
-        used = used + n + 1;
-        room -= 1;
+        used += n + 1;
     }
     Fed { used, put }
 }
 
-// How much of a rest is kept: of a line that no newline ends yet, the bytes that are read.
-fn keep_len(rest: &[u8]) -> usize
-    ensures exact { result ≡ length (clipped rest.now) }
-    ensures within { result ≤ length rest.now }
-    ensures front { take result rest.now ≡ clipped rest.now }
+// What is kept of a rest: of a line that no newline ends yet, the bytes that are read.
+#[tactic(auto, using(crate::proofs::Windows::clipped_ended, crate::proofs::Windows::clipped_part))]
+fn kept(rest: &[u8]) -> &[u8]
+    ensures { result.now ≡ clipped rest.now }
 {
-    let n = rest.len();
-    if n <= LINE_BYTES {
-        return n;
+    if line_len(rest) < rest.len() {
+        return rest;
     }
-    if line_len(rest) == n {
-        return LINE_BYTES;
-    }
-    n
-}
-
-// Moves the n bytes from `from` on to the front.
-fn shift(buf: &mut [u8], from: usize, n: usize)
-    requires { from + n ≤ length buf.old }
-    ensures { Put n buf.old 0 (take n (drop from buf.old)) n buf.new }
-{
-    let mut i = 0;
-    while i < n {
-        buf[i] = buf[from + i];
-        i += 1;
-    }
+    &rest[..rest.len().min(LINE_BYTES)]
 }
 
 #[derive(Clone, Copy)]
@@ -81,11 +59,9 @@ pub(crate) fn step(buf: &mut [u8], n: usize, out: &mut [u8], counts: &mut [u32; 
     requires { n ≤ length buf.old }
     ensures { StepRight (take n buf.old) buf.old buf.new out.old out.new counts.old counts.new result.kept result.put }
 {
-    let fed = feed(&buf[..n], out, counts);
-    let used = fed.used;
-    let put = fed.put;
-    let keep = keep_len(&buf[used..n]);
-    shift(buf, used, keep);
+    let Fed { used, put } = feed(&buf[..n], out, counts);
+    let keep = kept(&buf[used..n]).len();
+    buf.copy_within(used..used + keep, 0);
     Stepped { kept: keep, put }
 }
 
@@ -95,7 +71,7 @@ fn last(s: &[u8], out: &mut [u8], counts: &mut [u32; 53]) -> usize
     requires room { answer_room ≤ length out.old }
     ensures { LastRight s.now counts.old counts.new out.old out.new result }
 {
-    if s.len() == 0 {
+    if s.is_empty() {
         return 0;
     }
     let more = left(counts);

@@ -1,32 +1,18 @@
 -- `stream::window::step` writes, counts and keeps what the definitions say.
-use mathlib.Core.Path.{sym}
-use Prim.Native.Nat.{◌-◌}
-use native.Mathlib.Omega.{arith}
-use lib.ListN.{drop, length-take}
-use lib.Seq.{length-take-le}
-use Rattle.stream.proofs.Windows.{step_right}
+use Rattle.std.proofs.Common.{ap, arith}
+use lib.ListN.{length}
+use Rattle.stream.proofs.Windows.{step_right, keep_fits}
 use Rattle.stream.proofs.window.step.Goals as goal
 
-pub slice_bounds-feed-end-2 : goal.slice_bounds-feed-end-2
-slice_bounds-feed-end-2 c = sym (length-take-le c.args.n c.args.buf.now c.requires)
+pub copy_within-requires-clause-in_bounds : goal.copy_within-requires-clause-in_bounds
+copy_within-requires-clause-in_bounds c = keep_fits c.args.buf.now _ c.args.n _ c.requires c.feed-used.ensures.within c.kept-keep.ensures
 
-pub slice_bounds-keep_len-count : goal.slice_bounds-keep_len-count
-slice_bounds-keep_len-count c = omega (arith, c.feed-fed.ensures.within, length-take-le c.args.n c.args.buf.now c.requires)
-
-pub slice_bounds-keep_len-start : goal.slice_bounds-keep_len-start
-slice_bounds-keep_len-start c = omega (arith, c.feed-fed.ensures.within, length-take-le c.args.n c.args.buf.now c.requires)
-
-pub shift-requires : goal.shift-requires
-shift-requires c =
-    let fed = c.feed-fed in
-    let args = c.args in
-    omega (arith, fed.ensures.within, length-take-le args.n args.buf.now c.requires, c.keep_len-keep.ensures.within, length-take (args.n - fed.result.used) (drop fed.result.used args.buf.now))
+pub copy_within-requires-clause-dest_in_bounds : goal.copy_within-requires-clause-dest_in_bounds
+copy_within-requires-clause-dest_in_bounds c = omega (arith, keep_fits c.args.buf.now _ c.args.n _ c.requires c.feed-used.ensures.within c.kept-keep.ensures)
 
 pub returns : goal.returns
 returns c =
     let args = c.args in
-    let fed = c.feed-fed in
-    let keep = c.keep_len-keep in
-    let moved = c.shift in
-    step_right args.buf.now moved.new.buf args.out.now fed.new.out args.counts.now fed.new.counts args.n fed.result.used fed.result.put keep.result c.requires
-    fed.ensures.right fed.ensures.within keep.ensures.exact keep.ensures.within keep.ensures.front moved.ensures
+    let fed = c.feed-used in
+    step_right args.buf.now _ args.out.now fed.new.out args.counts.now fed.new.counts args.n fed.result.used fed.result.put _ c.requires
+    fed.ensures.right fed.ensures.within (ap length c.kept-keep.ensures) c.copy_within.ensures.after
