@@ -9,14 +9,19 @@ use native.Mathlib.Omega.{arith}
 use native.Mathlib.Decide.{ℕ_discrete}
 use borrow.Author.Tests.{leb-true, leb-false, le-leb, lt-leb}
 use lib.Dec.{leb, lit<}
-use lib.ListN.{length, get_or, set, replicate, length-append, length-set, get_or-replicate, get_or-append}
-use lib.Seq.{get_or-append-add, get_or-set_same, get_or-set_other, ext_get_or}
+use lib.ListN.{length, get_or, take, drop, replicate, length-append, length-drop, get_or-replicate, get_or-append, get_or-eq_default}
+use Rattle.std.proofs.Common.{get_or-drop}
+use Rattle.std.specs.Array.{IsFromFnResultFrom}
+use denote.Param.Members.{Mut, Called}
+use lib.Seq.{get_or-append-add, ext_get_or, take_all}
 use mir.Val.{bool_byte}
 use Rattle.ascii.specs.Pick.{pick}
 use Rattle.ascii.specs.Class.{is_digit, all}
 use Rattle.ascii.proofs.Tests.{below, below_at}
 use Rattle.ascii.proofs.Class.{digit_bounds, all_first, all_rest}
-use Rattle.std.specs.Prelude.{Result, Ok, Err, is_ok, ⊤}
+use Rattle.std.specs.Prelude.{Result, Ok, Err, is_ok, IsErr, IsErrAnd, ⊤}
+use Rattle.std.proofs.lemmas.Result.{err_from_is_err_and}
+use Rattle.figures.proofs.Steps.{within_table}
 use Rattle.forms.specs.Form.{Form, fault_of}
 use Rattle.forms.proofs.Laws.{fault_long}
 use Rattle.forms.specs.declared.form.Fault.{Fault}
@@ -94,38 +99,38 @@ placed_at (suc n) f k l =
     get_d_end : (l : List ℕ) (v i : ℕ) → length l ≡ i → get_or (l ++ v ∷ []) i 0 ≡ v
     get_d_end l v i e = ap (λ j. get_or (l ++ v ∷ []) j 0) (let z : i ≡ length l + 0 = omega arith in z) ∙ get_or-append-add l (v ∷ []) 0 0
 
--- places that are being filled, from the right
-pub record Filled (f : ℕ → ℕ) (k : ℕ) (t : List ℕ) : Type 0 where
-  pub size : length t ≡ 20
-  pub done : (j : ℕ) → j < k → get_or t j 0 ≡ f j
-  pub rest : (j : ℕ) → k ≤ j → j < 20 → get_or t j 0 ≡ 0
+-- a list of 20 places
+pub placed_by : (f : ℕ → ℕ) (t : List ℕ) → length t ≡ 20 → ((j : ℕ) → j < 20 → get_or t j 0 ≡ f j) → t ≡ placed 20 f
+placed_by f t e h =
+    ext_get_or 0 t (placed 20 f) (e ∙ sym (placed_length 20 f)) (λ j l. h j (omega arith) ∙ sym (placed_at 20 f j (omega arith)))
 
-module _ (f : ℕ → ℕ) where
-  pub fill_none : Filled f 0 (replicate 20 0)
-  fill_none = record { size = refl; done = λ j l. absurd (omega arith); rest = λ j h l. get_or-replicate 20 j 0 0 l }
+-- places that a closure gives, which calls leave as it was
+pub given_by : {F : Type 0} (g : Mut F (ℕ × Unit {0}) ℕ) (c : F) (f : ℕ → ℕ) (t : List ℕ) → ((k y : ℕ) (d : F) → Called g c (k, tt) y d → (d ≡ c) × (y ≡ f k))
+    → (n k : ℕ) → IsFromFnResultFrom g c t k n → (j : ℕ) → k ≤ j → j < k + n → get_or t j 0 ≡ f j
+given_by g c f t s zero k h j l m = absurd (omega arith)
+given_by g c f t s (suc n) k h j l m =
+    let w = s k h.1 h.0 h.3 in
+    elim (ℕ_discrete k j) [
+      | yes e ↦ rw (← e) (h.2.1 0 ∙ w.1)
+      | no ne ↦ given_by g c f t s n (k + 1) (rw w.0 at h.4) j (omega arith) (omega arith)
+    ]
 
-  pub fill_next : (k : ℕ) (t : List ℕ) (w : ℕ) → Filled f k t → k < 20 → w ≡ f k → Filled f (k + 1) (set t k w)
-  fill_next k t w r h e = record {
-    size = length-set t k w ∙ r.size;
-    done = λ j l.
-        elim (ℕ_discrete j k) [
-          | yes q ↦ rw q (get_or-set_same t k w 0 (omega (arith, r.size)) ∙ e)
-          | no ne ↦ get_or-set_other t k j w 0 ne ∙ r.done j (omega arith)
-        ];
-    rest = λ j l b. get_or-set_other t k j w 0 (λ q. omega arith) ∙ r.rest j (omega arith) b;
-  }
-
-  -- where the weights have come to an end, the rest is 0
-  pub fill_all : (k : ℕ) (t : List ℕ) → Filled f k t → ((j : ℕ) → k ≤ j → j < 20 → f j ≡ 0) → t ≡ placed 20 f
-  fill_all k t r z =
-      ext_get_or 0 t (placed 20 f) (r.size ∙ sym (placed_length 20 f)) (λ j l. at j (omega (arith, r.size)) ∙ sym (placed_at 20 f j (omega (arith, r.size))))
-    where
-      at : (j : ℕ) → j < 20 → get_or t j 0 ≡ f j
-      at j l = go (leb k j) refl
-        where
-          go : (b : Bool) → leb k j ≡ b → get_or t j 0 ≡ f j
-          go true e = let h = leb-true k j e in r.rest j h l ∙ sym (z j h l)
-          go false e = r.done j (leb-false k j e)
+-- the weights of a table, and zeros
+pub tabled_by : (ws : List ℕ) → length ws ≤ 20 → ws ++ drop (length ws) (replicate 20 0) ≡ placed 20 (λ k. get_or ws k 0)
+tabled_by ws l =
+    placed_by (λ k. get_or ws k 0) (ws ++ drop (length ws) (replicate 20 0))
+    (simp (length-append, length-drop) (omega arith))
+    (λ j m. go j m (leb (length ws) j) refl)
+  where
+    go : (j : ℕ) → j < 20 → (t : Bool) → leb (length ws) j ≡ t → get_or (ws ++ drop (length ws) (replicate 20 0)) j 0 ≡ get_or ws j 0
+    go j m true e =
+        let h = leb-true (length ws) j e in
+        let z : length ws + (j - length ws) ≡ j = omega arith in
+        rw z at (get_or-append-add ws (drop (length ws) (replicate 20 0)) (j - length ws) 0)
+        ∙ get_or-drop (length ws) (replicate 20 0) (j - length ws) 0
+        ∙ get_or-replicate 20 (length ws + (j - length ws)) 0 0 (omega arith)
+        ∙ sym (get_or-eq_default ws 0 h)
+    go j m false e = get_or-append ws (drop (length ws) (replicate 20 0)) 0 j (leb-false (length ws) j e)
 
 -- ---- a check digit that is still to come
 
@@ -172,6 +177,27 @@ sum_over fold places f after s h = rw (lt-leb (length s + after) (length places)
 pub sum_room : (fold : Bool) (places : List ℕ) (f : Form) (after : ℕ) (s : List ℕ) → length s + after ≤ length places → summed_by fold places f after s ≡ summed (fault_of f s) (total (adds_from after fold places) s)
 unfolding summed_by pick
 sum_room fold places f after s h = rw (le-leb (length s + after) (length places) h)
+
+-- a form that is not met, and one that is
+pub sum_unfit : {r : Result ℕ Fault} {fault : Fault} (fold : Bool) (places : List ℕ) (f : Form) (after : ℕ) (s : List ℕ) → length s + after ≤ length places
+    → IsErr r × IsErrAnd r (λ x. x ≡ fault) → Err fault ≡ fault_of f s → r ≡ summed_by fold places f after s
+sum_unfit {r} fold places f after s h a e =
+    let p = err_from_is_err_and r a.1 in sym (sum_room fold places f after s h ∙ rw (← e, p.1, p.2) refl)
+
+pub sum_met : {t : ℕ} (fold : Bool) (places : List ℕ) (f : Form) (after : ℕ) (s : List ℕ) → length s + after ≤ length places
+    → Ok tt ≡ fault_of f s → t ≡ total (adds_from after fold places) s → Ok t ≡ summed_by fold places f after s
+sum_met fold places f after s h e g = sum_fit (sym e) g ∙ sym (sum_room fold places f after s h)
+
+-- the weights from a place on
+pub places_from : (fold : Bool) (ws : List ℕ) (after : ℕ) (s : List ℕ) → length s + after ≤ length ws
+    → total (adds fold (take (length ws - after) (drop after ws))) s ≡ total (adds_from after fold ws) s
+places_from fold ws after s h =
+    let n = length-drop after ws in
+    rw (take_all (length ws - after) (drop after ws) (omega arith))
+    (same_total (adds fold (drop after ws)) (adds_from after fold ws) s
+    (λ k d l.
+    let z : after + k ≡ k + after = omega arith in
+    ap (λ w. counted fold (w * d)) (within_table (drop after ws) k (omega arith) ∙ get_or-drop after ws k 0 ∙ ap (λ j. get_or ws j 0) z)))
 
 -- where the places are enough for every number of the form
 pub sum_formed : (fold : Bool) (places : List ℕ) (f : Form) (after : ℕ) (s : List ℕ) → f.most + after ≤ length places → summed_by fold places f after s ≡ summed (fault_of f s) (total (adds_from after fold places) s)

@@ -1,13 +1,17 @@
 -- The turns of a loop that adds up digits from the left, for any weights. Assumes nothing.
-use mathlib.Core.Path.{◌≡◌, refl, ap}
-use mathlib.Core.Bool.{Bool}
-use mathlib.Core.List.{List, [], ◌∷◌}
+use mathlib.Core.Path.{◌≡◌, refl, sym, ap, ◌∙◌}
+use mathlib.Core.Bool.{Bool, true}
+use mathlib.Core.List.{List, [], ◌∷◌, ◌++◌, append_assoc}
 use Prim.Native.Nat.{ℕ, suc, ◌+◌, ◌-◌, ◌*◌, ◌%◌, ◌≤◌, ◌<◌}
 use native.Mathlib.Nat.{mod-eq_of_lt, mul-le-mul_left}
 use native.Mathlib.Numerals.{add-one}
 use native.Mathlib.Omega.{arith}
 use lib.ListN.{length, get_or, drop, length-drop, drop_of_length-le}
-use lib.Seq.{drop-cons}
+use lib.Seq.{drop-cons, drop_at}
+use Rattle.std.specs.List.{push}
+use Rattle.std.proofs.lemmas.List.{length_push}
+use Rattle.ascii.specs.Class.{is_digit, all}
+use Rattle.ascii.proofs.Class.{all_first, all_drop}
 use Rattle.figures.specs.Total.{total}
 use Rattle.figures.specs.Figures.{weight_at, counted, adds}
 
@@ -57,3 +61,38 @@ module _ (fold : Bool) (a b : ℕ) where
 
 pub product : (w d : ℕ) → d ≤ 9 → w * d ≤ w * 9
 product w d h = mul-le-mul_left w h
+
+-- ---- a loop from the right: l is what is left of the text s, and b the last of it
+
+module _ (s l m : List ℕ) (b : ℕ) (e : l ≡ push m b) (h : l ++ drop (length l) s ≡ s) where
+  pub shorter : length l ≡ length m + 1
+  shorter = ap length e ∙ length_push m b
+
+  whole : m ++ b ∷ drop (length l) s ≡ s
+  whole = sym (append_assoc m (b ∷ []) (drop (length l) s)) ∙ ap (λ x. x ++ drop (length l) s) (sym e) ∙ h
+
+  pub last : drop (length m) s ≡ b ∷ drop (length l) s
+  last = ap (drop (length m)) (sym whole) ∙ drop_at m (b ∷ drop (length l) s) (length m) refl
+
+  pub left_of : m ++ drop (length m) s ≡ s
+  left_of = rw last whole
+
+  pub added : (f : ℕ → ℕ → ℕ) → total f (drop (length m) s) ≡ f (length s - length l) (b - 48) + total f (drop (length l) s)
+  added f = rw (last, length-drop (length l) s) refl
+
+  pub last_digit : all is_digit s ≡ true → is_digit b ≡ true
+  last_digit d = all_first is_digit b (drop (length l) s) (rw last at (all_drop is_digit (length m) s d))
+
+-- and of a list of weights from its front
+module _ (ws v : List ℕ) (k w : ℕ) (e : drop k ws ≡ w ∷ v) where
+  some : k < length ws
+  some = let q : length (drop k ws) ≡ suc (length v) = ap length e in omega (arith, length-drop k ws)
+
+  parts : get_or ws k 0 ∷ drop (suc k) ws ≡ w ∷ v
+  parts = sym (drop-cons ws k 0 some) ∙ e
+
+  pub first_weight : w ≡ get_or ws k 0
+  first_weight = sym (ap (λ l. get_or l 0 0) parts)
+
+  pub other_weights : v ≡ drop (k + 1) ws
+  other_weights = let z : suc k ≡ k + 1 = omega arith in rw z at (sym (ap (drop 1) parts))

@@ -1,7 +1,9 @@
 -- What the code finds its answers from. No rule cites this; that it says what the rules say is proved.
-use Rattle.std.specs.Prelude.{Bool, false, not, ◌&&◌, Result, Ok, Err, ⊤, List, [], ◌∷◌, ◌++◌, ℕ, zero, suc, ◌+◌, ◌*◌, ◌/◌, ◌%◌, eqb, leb, length, get_or}
+use Rattle.std.specs.Prelude.{Bool, false, not, ◌&&◌, Result, Ok, Err, ⊤, List, [], ◌∷◌, ◌++◌, ℕ, zero, suc, ◌+◌, ◌*◌, ◌/◌, ◌%◌, ◌==◌, nat_le, length, get_or}
 use Prim.Native.Char.{code}
 use Rattle.ascii.specs.Pick.{pick}
+use Rattle.answer.specs.declared.reason.Reason.{Reason}
+use Rattle.answer.specs.declared.reason.Reason.TheVariants.{Zero, NoFigure}
 use Rattle.forms.specs.Form.{Form, class_at, wrong, fault_of}
 use Rattle.forms.specs.declared.form.Fault.{Fault}
 use Rattle.forms.specs.declared.form.Fault.TheVariants.{Length}
@@ -39,19 +41,27 @@ placed (suc n) weight = placed n weight ++ (weight n ∷ [])
 
 -- whether a number of the right form is accepted, by its total
 abbrev pub total_passes : Kind → ℕ → Bool
-total_passes Mod10 t = eqb (t % figure40.modulus) 0
-total_passes Mod11 t = not (eqb t 0) && eqb (t % figure41.modulus) 0
-total_passes Mod97 t = eqb (t % 100) (belgian_pair (t / 100))
-total_passes Luhn t = eqb (t % luhn.modulus) 0
-total_passes Mod89 t = eqb (t % figure50.modulus) 10
+total_passes Mod10 t = t % figure40.modulus == 0
+total_passes Mod11 t = not (t == 0) && t % figure41.modulus == 0
+total_passes Mod97 t = t % 100 == belgian_pair (t / 100)
+total_passes Luhn t = t % luhn.modulus == 0
+total_passes Mod89 t = t % figure50.modulus == 10
 
--- the check figure, by a body's total
+-- the check figure, by a body's total; 10 where a body of 0192 has none
 abbrev pub lacking : Kind → ℕ → ℕ
 lacking Mod10 t = complement figure40.modulus t
 lacking Mod11 t = complement figure41.modulus t
 lacking Mod97 t = belgian_pair t
 lacking Luhn t = complement luhn.modulus t
 lacking Mod89 t = abn_pair t
+
+-- the same, or why there is none: ZERO for a total of 0192 that is 0, NO_FIGURE where its check would be 10
+abbrev pub figure_for : Kind → ℕ → Result ℕ Reason
+figure_for Mod10 t = Ok (lacking Mod10 t)
+figure_for Mod11 t = pick (t == 0) (Err Zero) (pick (lacking Mod11 t == 10) (Err NoFigure) (Ok (lacking Mod11 t)))
+figure_for Mod97 t = Ok (lacking Mod97 t)
+figure_for Luhn t = Ok (lacking Luhn t)
+figure_for Mod89 t = Ok (lacking Mod89 t)
 
 -- what the digit d adds by the weights of the places, with k digits and `after` more to come to its right
 abbrev pub adds_from : ℕ → Bool → List ℕ → ℕ → ℕ → ℕ
@@ -70,4 +80,4 @@ summed (Err fault) t = Err fault
 -- more digits than places
 unfoldable pub summed_by : Bool → List ℕ → Form → ℕ → List ℕ → Result ℕ Fault
 summed_by fold places form after s =
-    pick (leb (length s + after) (length places)) (summed (fault_of form s) (total (adds_from after fold places) s)) (Err Length)
+    pick (nat_le (length s + after) (length places)) (summed (fault_of form s) (total (adds_from after fold places) s)) (Err Length)

@@ -13,7 +13,7 @@ pub enum Passed {
     Through,
 }
 
-#[derive(Clone, Copy)]
+#[derive(Clone, Copy, PartialEq, Eq, Debug)]
 pub enum Problem {
     // nothing but zeros, where the rule refuses that by a reason of its own
     Zero,

@@ -4,10 +4,12 @@ ghost use mir.Val.{bool_byte};
 ghost use Rattle.forms.specs.Table.{digits};
 ghost use Rattle.figures.specs.Total.{total};
 ghost use Rattle.figures.specs.Figures.{weight_at, counted, belgian_pair};
-ghost use Rattle.figures.specs.Inner.{figure_by, weight_by, placed, adds_from, no_digit, summed, summed_by, total_passes, lacking};
+ghost use Rattle.figures.specs.Inner.{figure_by, weight_by, placed, adds_from, no_digit, summed, summed_by, total_passes, figure_for};
 
-use ascii::{is_digit, wide};
-use forms::Fault;
+use super::total::{counted, weighted};
+use answer::Reason;
+use forms::{Fault, digits};
+use std::array;
 
 // 0088, 0192, 0208, 0007, 0151.
 #[derive(Clone, Copy, PartialEq, Eq, Debug)]
@@ -47,14 +49,7 @@ fn in_turn(last: u32, before: u32) -> [u32; 20]
     ensures { result ≡ placed 20 (weight_at (last ∷ before ∷ [])) }
 {
     let pair = [last, before];
-    let mut places = [0u32; 20];
-    let mut k: usize = 0;
-    while k < 20 {
-        let odd = k % 2;
-        places[k] = pair[odd];
-        k += 1;
-    }
-    places
+    array::from_fn(|k| pair[k % 2])
 }
 
 // The weights of a table, and zeros up to 20 places.
@@ -62,13 +57,8 @@ fn tabled(weights: &[u32]) -> [u32; 20]
     requires { length weights.now ≤ 20 }
     ensures { result ≡ placed 20 (λ k. get_or weights.now k 0) }
 {
-    let n = weights.len();
-    let mut places = [0u32; 20];
-    let mut k: usize = 0;
-    while k < n {
-        places[k] = weights[k];
-        k += 1;
-    }
+    let mut places = [0; 20];
+    places[..weights.len()].copy_from_slice(weights);
     places
 }
 
@@ -85,50 +75,11 @@ pub fn weights_of(kind: Kind) -> [u32; 20]
     }
 }
 
-// Whether the digits of a product are added.
-fn folds(kind: Kind) -> bool
-    ensures { result ≡ (figure_by kind).fold }
-{
-    match kind {
-        Kind::Mod10 => false,
-        Kind::Mod11 => false,
-        Kind::Mod97 => false,
-        Kind::Luhn => true,
-        Kind::Mod89 => false,
-    }
-}
-
 // What the digit d adds by its weight.
 pub fn share(kind: Kind, w: u32, d: u8) -> u64
     ensures { result ≡ counted (figure_by kind).fold (w * d) }
 {
-    let p = (w as u64) * (d as u64);
-    if folds(kind) {
-        return p / 10 + p % 10;
-    }
-    p
-}
-
-// The total of digits, with `after` more to come; or the first place that has no digit.
-fn added(kind: Kind, weights: &[u32], s: &[u8], after: usize) -> Result<u64, Fault>
-    requires enough { length s.now + after ≤ length weights.now }
-    requires few { length s.now ≤ 255 }
-    ensures { result ≡ summed (no_digit s.now) (total (adds_from after (figure_by kind).fold weights.now) s.now) }
-{
-    let n = s.len();
-    let mut sum: u64 = 0;
-    let mut i = 0;
-    while i < n {
-        let b = s[i];
-        if is_digit(wide(b)) {
-            let k = n - 1 - i + after;
-            sum += share(kind, weights[k], b - 48);
-            i += 1;
-        } else {
-            return Err(Fault::At(i));
-        }
-    }
-    Ok(sum)
+    counted(kind == Kind::Luhn, w, d)
 }
 
 // The total of least to most digits by the weights of their places; where a check digit is still to come, the last place is for it. More digits
@@ -143,18 +94,12 @@ pub fn sum_of(
 ) -> Result<u64, Fault>
     ensures { result ≡ summed_by (figure_by kind).fold weights.now (digits least most) (bool_byte pending) s.now }
 {
-    let n = s.len();
-    let after = pending as usize;
-    if n < (least as usize) {
+    let after = usize::from(pending);
+    if weights.len() < s.len() + after {
         return Err(Fault::Length);
     }
-    if (most as usize) < n {
-        return Err(Fault::Length);
-    }
-    if weights.len() < n + after {
-        return Err(Fault::Length);
-    }
-    added(kind, weights, s, after)
+    digits(s, usize::from(least), usize::from(most))?;
+    Ok(weighted(s, &weights[after..], kind == Kind::Luhn))
 }
 
 // The pair of 0208: 97 less what the first eight digits leave by 97.
@@ -177,15 +122,24 @@ pub fn passes(kind: Kind, total: u64) -> bool
     }
 }
 
-// The check figure that a body's total lacks; 10 where a body of 0192 has none.
-pub fn lacking(kind: Kind, total: u64) -> u64
-    ensures { result ≡ lacking kind total }
+// The check figure that a body's total lacks, or why a body of 0192 has none.
+pub fn lacking(kind: Kind, total: u64) -> Result<u64, Reason>
+    ensures { result ≡ figure_for kind total }
 {
     match kind {
-        Kind::Mod10 => (TEN - total % TEN) % TEN,
-        Kind::Mod11 => (ELEVEN - total % ELEVEN) % ELEVEN,
-        Kind::Mod97 => belgian_pair(total),
-        Kind::Luhn => (TEN - total % TEN) % TEN,
-        Kind::Mod89 => 99 - total % ABN_MODULUS,
+        Kind::Mod10 => Ok((TEN - total % TEN) % TEN),
+        Kind::Mod11 => {
+            if total == 0 {
+                return Err(Reason::Zero);
+            }
+            let check = (ELEVEN - total % ELEVEN) % ELEVEN;
+            if check == 10 {
+                return Err(Reason::NoFigure);
+            }
+            Ok(check)
+        }
+        Kind::Mod97 => Ok(belgian_pair(total)),
+        Kind::Luhn => Ok((TEN - total % TEN) % TEN),
+        Kind::Mod89 => Ok(99 - total % ABN_MODULUS),
     }
 }

@@ -14,7 +14,7 @@ fn gln_of(s: &[u8]) -> Finding
     ensures { result ≡ gln s.now }
 {
     all_digits(s)?;
-    decided((alternating(s, LAST, GLN_BEFORE, false) as u64) % TEN == 0)
+    decided(u64::from(alternating(s, LAST, GLN_BEFORE, false)) % TEN == 0)
 }
 
 // A GLN has 13 digits. These go by themselves, so that both loops have a length that the compiler knows.
@@ -32,11 +32,11 @@ pub fn mod11(s: &[u8]) -> Finding
 {
     n_digits(s, NORWEGIAN)?;
     let weights = MOD11;
-    let sum = weighted(s, &weights);
+    let sum = weighted(s, &weights, false);
     if sum == 0 {
         return Err(Problem::Zero);
     }
-    decided((sum as u64) % ELEVEN == 0)
+    decided(sum % ELEVEN == 0)
 }
 
 pub fn mod97_0208(s: &[u8]) -> Finding
@@ -44,9 +44,9 @@ pub fn mod97_0208(s: &[u8]) -> Finding
 {
     n_digits(s, BELGIAN)?;
     let powers = MOD97;
-    let body = weighted(&s[0..8], &powers);
-    let check = weighted(&s[8..10], &powers);
-    decided(check as u64 == belgian_pair(body as u64))
+    let body = weighted(&s[0..8], &powers, false);
+    let check = weighted(&s[8..10], &powers, false);
+    decided(check == belgian_pair(body))
 }
 
 // The text with IT or it in front.
@@ -54,14 +54,14 @@ pub fn partita_iva(s: &[u8]) -> Finding
     ensures { result ≡ partita_iva s.now }
 {
     italian(s)?;
-    decided((alternating(&s[2..13], LAST, LUHN_BEFORE, true) as u64) % TEN == 0)
+    decided(u64::from(alternating(&s[2..13], LAST, LUHN_BEFORE, true)) % TEN == 0)
 }
 
 pub fn se_orgnr(s: &[u8]) -> Finding
     ensures { result ≡ se_orgnr s.now }
 {
     n_digits(s, SWEDISH)?;
-    decided((alternating(s, LAST, LUHN_BEFORE, true) as u64) % TEN == 0)
+    decided(u64::from(alternating(s, LAST, LUHN_BEFORE, true)) % TEN == 0)
 }
 
 pub fn abn(s: &[u8]) -> Finding

@@ -8,7 +8,18 @@ ghost use Rattle.figures.specs.Rules.{abn_total};
 use super::kind::MOD89;
 use ascii::wide;
 
-// What a digit adds by its weight.
+// What the digit d adds by its weight; with `fold` the digits of the product are added.
+pub(crate) fn counted(fold: bool, w: u32, d: u8) -> u64
+    ensures { result ≡ counted fold (w * d) }
+{
+    let p = u64::from(w) * u64::from(d);
+    if fold {
+        return p / 10 + p % 10;
+    }
+    p
+}
+
+// The same for two weights that alternate: by 64 bits, 20 digits would take a quarter longer.
 fn part(w: u32, b: u8, fold: bool) -> u32
     requires small { w ≤ 10000000 }
     requires digit { is_digit b ≡ true }
@@ -54,22 +65,17 @@ pub(crate) fn alternating(s: &[u8], last: u32, before: u32, fold: bool) -> u32
     sum
 }
 
-// The total by a table of weights from the right, for no more digits than it has.
-pub(crate) fn weighted(s: &[u8], weights: &[u32]) -> u32
+// The total by the weights of places from the right, for no more digits than there are places.
+pub(crate) fn weighted(s: &[u8], weights: &[u32], fold: bool) -> u64
     requires digits { all is_digit s.now ≡ true }
-    requires few { length s.now ≤ 11 }
+    requires few { length s.now ≤ 255 }
     requires enough { length s.now ≤ length weights.now }
-    requires small { all (λ w. leb w 10000000) (take (length s.now) weights.now) ≡ true }
-    ensures exact { result ≡ total (adds false weights.now) s.now }
-    ensures bound { result ≤ 90000000 * length s.now }
+    ensures exact { result ≡ total (adds fold weights.now) s.now }
+    ensures bound { result ≤ 38654705664 * length s.now }
 {
-    let n = s.len();
-    let mut sum: u32 = 0;
-    let mut i = 0;
-    while i < n {
-        let k = n - 1 - i;
-        sum += part(weights[k], s[i], false);
-        i += 1;
+    let mut sum = 0;
+    for (b, w) in s.iter().rev().zip(weights) {
+        sum += counted(fold, *w, *b - 48);
     }
     sum
 }
@@ -81,7 +87,7 @@ pub(crate) fn abn_total(s: &[u8]) -> i64
     ensures { result ≡ abn_total s.now }
 {
     let weights = MOD89;
-    let rest = weighted(&s[1..11], &weights);
+    let rest = weighted(&s[1..11], &weights, false);
     let digit = s[0] - 48;
     let first = (digit as i64) - 1;
     (weights[10] as i64) * first + (rest as i64)

@@ -1,13 +1,13 @@
-use mathlib.Core.Path.{refl}
+-- `figures::kind::in_turn` meets its contract. Assumes nothing.
+use Rattle.std.proofs.Common.{rules, tests}
+use mathlib.Core.List.{[], ◌∷◌}
 use native.Mathlib.Omega.{arith}
-use Rattle.figures.proofs.Adding.{fill_none, fill_next, fill_all}
+use Rattle.figures.specs.Figures.{weight_at}
+use Rattle.figures.proofs.Adding.{placed_by, given_by}
 use Rattle.figures.proofs.kind.in_turn.Goals as goal
 
-pub loop-k-init : goal.loop-k-init
-loop-k-init c = (omega arith, fill_none _)
-
-pub loop-k-preserved : goal.loop-k-preserved
-loop-k-preserved c = let l = c.loop-k in (omega arith, fill_next _ l.k l.places _ l.invariant.1 (omega arith) refl)
-
 pub returns : goal.returns
-returns c = let l = c.loop-k in fill_all _ l.k l.places l.invariant.1 (λ j h b. absurd (omega arith))
+returns c =
+    let f = weight_at (c.args.last ∷ c.args.before ∷ []) in
+    placed_by f c.from_fn.result c.from_fn.ensures.items.long
+    (λ j l. given_by _ _ f c.from_fn.result (λ k y d h. search (rules, tests)) 20 0 c.from_fn.ensures.items.each j (omega arith) l)

@@ -1,6 +1,6 @@
 -- `figures::rules::gln_of` meets its contract. Assumes nothing.
 use Prim.Native.Nat.{◌%◌}
-use mathlib.Core.Path.{sym, ap}
+use mathlib.Core.Path.{sym, ap, ◌∙◌}
 use lib.Dec.{eqb}
 use Rattle.forms.proofs.OfDigits.{digits_fit}
 use Rattle.figures.specs.Rules.{gln}
@@ -19,4 +19,4 @@ alternating-requires-clause-few c = (digits_fit 1 1024 c.args.s.now (sym c.in_ok
 
 pub returns : goal.returns
 unfolding gln
-returns c = met _ c.in_ok-all_digits.ensures (ap (λ t. eqb (t % 10) 0) c.alternating.ensures) c.decided.ensures
+returns c = met _ c.in_ok-all_digits.ensures (ap (λ t. eqb (t % 10) 0) (c.from.ensures ∙ c.alternating.ensures)) c.decided.ensures

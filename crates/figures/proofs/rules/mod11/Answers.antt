@@ -1,6 +1,6 @@
 -- `figures::rules::mod11` meets its contract. Assumes nothing.
 use Prim.Native.Nat.{◌%◌}
-use mathlib.Core.Path.{◌≡◌, refl, ◌∙◌, sym, ap}
+use mathlib.Core.Path.{◌≡◌, ◌∙◌, sym, ap}
 use native.Mathlib.Omega.{arith}
 use lib.Dec.{eqb}
 use lib.ListN.{length}
@@ -22,7 +22,7 @@ weighted-sum-requires c =
     let s = c.args.s.now in
     let d = digits_fit 9 9 s (sym c.in_ok-n_digits.ensures) in
     let n : length s ≡ 9 = omega arith in
-    record { digits = d.digit; few = omega arith; enough = omega arith; small = rw n refl }
+    record { digits = d.digit; few = omega arith; enough = omega arith }
 
 pub returns-then-sum-eq0 : goal.returns-then-sum-eq0
 unfolding mod11

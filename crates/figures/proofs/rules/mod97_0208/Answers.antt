@@ -1,9 +1,8 @@
 -- `figures::rules::mod97_0208` meets its contract. Assumes nothing.
-use mathlib.Core.Path.{◌≡◌, refl, ◌∙◌, sym, ap}
+use mathlib.Core.Path.{◌≡◌, ◌∙◌, sym, ap}
 use native.Mathlib.Omega.{arith}
 use lib.Dec.{eqb}
 use lib.ListN.{length, take, drop, length-take, length-drop}
-use lib.Seq.{length-take-le}
 use Rattle.ascii.specs.Class.{is_digit, all}
 use Rattle.ascii.proofs.Class.{all_take, all_drop}
 use Rattle.forms.proofs.OfDigits.{digits_fit}
@@ -26,7 +25,7 @@ unfolding all
 weighted-body-requires c =
     let s = c.args.s.now in
     let d = digits_fit 10 10 s (sym c.in_ok-n_digits.ensures) in
-    record { digits = all_take is_digit 8 s d.digit; few = omega (arith, length-take 8 s); enough = omega (arith, length-take 8 s); small = rw (length-take-le 8 s (omega arith)) refl }
+    record { digits = all_take is_digit 8 s d.digit; few = omega (arith, length-take 8 s); enough = omega (arith, length-take 8 s) }
 
 pub slice_bounds-weighted-end-3 : goal.slice_bounds-weighted-end-3
 slice_bounds-weighted-end-3 c = omega (arith, digits_fit 10 10 c.args.s.now (sym c.in_ok-n_digits.ensures))
@@ -37,7 +36,7 @@ weighted-check-requires c =
     let s = c.args.s.now in
     let d = digits_fit 10 10 s (sym c.in_ok-n_digits.ensures) in
     let n : length (drop 8 s) ≡ 2 = omega (arith, length-drop 8 s) in
-    rw (cut 8 10 s (omega arith)) record { digits = all_drop is_digit 8 s d.digit; few = omega (arith, length-drop 8 s); enough = omega (arith, length-drop 8 s); small = rw n refl }
+    rw (cut 8 10 s (omega arith)) record { digits = all_drop is_digit 8 s d.digit; few = omega (arith, length-drop 8 s); enough = omega (arith, length-drop 8 s) }
 
 pub returns : goal.returns
 unfolding mod97

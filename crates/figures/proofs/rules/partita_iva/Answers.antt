@@ -29,5 +29,5 @@ unfolding partita_iva
 returns c =
     let s = c.args.s.now in
     let f = c.in_ok-italian.ensures in
-    met _ f (ap (λ t. eqb (t % 10) 0) (c.alternating.ensures ∙ ap (total_by luhn) (cut 2 13 s (italian_digits s (sym f)).0)))
+    met _ f (ap (λ t. eqb (t % 10) 0) (c.from.ensures ∙ c.alternating.ensures ∙ ap (total_by luhn) (cut 2 13 s (italian_digits s (sym f)).0)))
     c.decided.ensures

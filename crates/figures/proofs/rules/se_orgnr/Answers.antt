@@ -1,6 +1,6 @@
 -- `figures::rules::se_orgnr` meets its contract. Assumes nothing.
 use Prim.Native.Nat.{◌%◌}
-use mathlib.Core.Path.{sym, ap}
+use mathlib.Core.Path.{sym, ap, ◌∙◌}
 use native.Mathlib.Omega.{arith}
 use lib.Dec.{eqb}
 use Rattle.forms.proofs.OfDigits.{digits_fit}
@@ -20,4 +20,4 @@ alternating-requires-clause-few c = omega (arith, digits_fit 10 10 c.args.s.now 
 
 pub returns : goal.returns
 unfolding se_orgnr
-returns c = met _ c.in_ok-n_digits.ensures (ap (λ t. eqb (t % 10) 0) c.alternating.ensures) c.decided.ensures
+returns c = met _ c.in_ok-n_digits.ensures (ap (λ t. eqb (t % 10) 0) (c.from.ensures ∙ c.alternating.ensures)) c.decided.ensures

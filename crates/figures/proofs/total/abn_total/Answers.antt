@@ -2,7 +2,7 @@
 use mathlib.Core.List.{List}
 use mathlib.Core.Bool.{true}
 use Prim.Native.Nat.{ℕ, ◌-◌, ◌≤◌}
-use mathlib.Core.Path.{◌≡◌, refl, ◌∙◌, ap}
+use mathlib.Core.Path.{◌≡◌, ◌∙◌, ap}
 use native.Mathlib.Omega.{arith}
 use lib.IntN.{pos, ◌+ℤ◌, ◌-ℤ◌, ◌*ℤ◌}
 use lib.ListN.{length, get_or, drop, length-drop}
@@ -18,7 +18,7 @@ first : (s : List ℕ) → all is_digit s ≡ true → length s ≡ 11 → (48 �
 first s h e = let d = digit_bounds (get_or s 0 0) (all_at is_digit s 0 h (omega arith)) in (d.0, omega arith)
 
 -- the bound of the weighted rest
-few : (c : After-weighted-rest) → c.weighted-rest.result ≤ 900000000
+few : (c : After-weighted-rest) → c.weighted-rest.result ≤ 386547056640
 few c =
     let b = rw (cut 1 11 c.args.s.now c.requires.eleven) at c.weighted-rest.ensures.bound in
     omega (arith, c.requires.eleven, length-drop 1 c.args.s.now)
@@ -28,7 +28,7 @@ unfolding all
 weighted-rest-requires c =
     let s = c.args.s.now in
     let n : length (drop 1 s) ≡ 10 = omega (arith, length-drop 1 s) in
-    rw (cut 1 11 s c.requires.eleven) record { digits = all_drop is_digit 1 s c.requires.digits; few = omega (arith, length-drop 1 s); enough = omega (arith, length-drop 1 s); small = rw n refl }
+    rw (cut 1 11 s c.requires.eleven) record { digits = all_drop is_digit 1 s c.requires.digits; few = omega (arith, length-drop 1 s); enough = omega (arith, length-drop 1 s) }
 
 pub overflow_sub-digit : goal.overflow_sub-digit
 overflow_sub-digit c = (first c.args.s.now c.requires.digits c.requires.eleven).0
