@@ -5,16 +5,20 @@ ghost use Rattle.rules.specs.Choice.{at_term, rule_for};
 
 use super::rule::Rule;
 use answer::Reason;
+use ascii::among;
+
+const VAT_TERMS: [u32; 3] = [31, 48, 63];
+
+const SCHEME_TERMS: [u32; 8] = [29, 30, 34, 46, 47, 49, 60, 61];
+
+const ADDRESS_TERMS: [u32; 2] = [34, 49];
 
 // The rule of 9907, which applies at the electronic addresses only.
 #[tactic(auto, unfolding(crate::specs::Choice::at_term, crate::specs::Choice::by_scheme, ascii::specs::Class::among, ascii::specs::Pick::pick))]
 fn at_address(term: u32) -> Option<Rule>
     ensures { result ≡ at_term (bytes "9907") term }
 {
-    match term {
-        34 | 49 => Some(Rule::R46),
-        _ => None,
-    }
+    among(term, &ADDRESS_TERMS).then_some(Rule::R46)
 }
 
 // The rule at a term that uses the scheme.
@@ -43,15 +47,18 @@ fn at_term(scheme: &[u8], term: u32) -> Option<Rule>
     }
 }
 
-// The rule that reads a field, or none, or there is no such term (docs/RULES.md, Terms).
+// The rule that reads a field, or none, or there is no such term (docs/RULES.md, Terms). Inlined, since its answer would be handed back in
+// memory.
 #[tactic(auto, unfolding(crate::specs::Choice::rule_for, ascii::specs::Class::among, ascii::specs::Pick::pick))]
+#[inline(always)]
 pub fn rule_for(scheme: &[u8], term: u32) -> Result<Option<Rule>, Reason>
     ensures { result ≡ rule_for scheme.now term }
 {
-    match term {
-        // a VAT number
-        31 | 48 | 63 => Ok(Some(Rule::R562)),
-        29 | 30 | 34 | 46 | 47 | 49 | 60 | 61 => Ok(at_term(scheme, term)),
-        _ => Err(Reason::Term),
+    if among(term, &VAT_TERMS) {
+        Ok(Some(Rule::R562))
+    } else if among(term, &SCHEME_TERMS) {
+        Ok(at_term(scheme, term))
+    } else {
+        Err(Reason::Term)
     }
 }
