@@ -1,9 +1,9 @@
 // The rule type: the seventeen rules, and what is fixed about each.
-ghost use Rattle.std.specs.Prelude.{◌≡◌, Some};
-ghost use Rattle.rules.specs.Facts.{facts, norm, raw};
+ghost use Rattle.std.specs.Prelude.{◌≡◌};
+ghost use Rattle.rules.specs.Facts.{facts};
 
-use answer::Severity;
-use text::Reading;
+use answer::Severity::{self, Fatal, Warning};
+use text::Reading::{self, AsItStands, Normalised};
 
 // In the order of their numbers; 561 and 562 stand for R056-1 and R056-2.
 #[derive(Clone, Copy, PartialEq, Eq, Debug)]
@@ -38,28 +38,21 @@ pub struct Fixed {
     pub reading: Reading,
 }
 
-// A rule that reads a content normalised, and one that reads it as it stands.
-fn norm(index: usize, number: u32, severity: Severity, scheme: Option<[u8; 4]>) -> Fixed
-    ensures { result ≡ norm index number severity scheme }
+fn row(
+    index: usize,
+    number: u32,
+    severity: Severity,
+    scheme: Option<[u8; 4]>,
+    reading: Reading,
+) -> Fixed
+    ensures { result ≡ record { index = index; number = number; severity = severity; scheme = scheme; reading = reading } }
 {
     Fixed {
         index,
         number,
         severity,
         scheme,
-        reading: Reading::Normalised,
-    }
-}
-
-fn raw(index: usize, number: u32, severity: Severity, scheme: Option<[u8; 4]>) -> Fixed
-    ensures { result ≡ raw index number severity scheme }
-{
-    Fixed {
-        index,
-        number,
-        severity,
-        scheme,
-        reading: Reading::AsItStands,
+        reading,
     }
 }
 
@@ -71,23 +64,23 @@ impl Rule {
         ensures { result ≡ facts self }
     {
         match self {
-            Rule::R40 => norm(0, 40, Severity::Fatal, Some(*b"0088")),
-            Rule::R41 => norm(1, 41, Severity::Fatal, Some(*b"0192")),
-            Rule::R42 => raw(2, 42, Severity::Fatal, Some(*b"0184")),
-            Rule::R43 => norm(3, 43, Severity::Fatal, Some(*b"0208")),
-            Rule::R44 => norm(4, 44, Severity::Warning, Some(*b"0201")),
-            Rule::R45 => norm(5, 45, Severity::Warning, Some(*b"0210")),
-            Rule::R46 => norm(6, 46, Severity::Warning, Some(*b"9907")),
-            Rule::R47 => norm(7, 47, Severity::Warning, Some(*b"0211")),
-            Rule::R49 => norm(8, 49, Severity::Fatal, Some(*b"0007")),
-            Rule::R50 => norm(9, 50, Severity::Fatal, Some(*b"0151")),
-            Rule::R52 => raw(10, 52, Severity::Fatal, Some(*b"0096")),
-            Rule::R53 => raw(11, 53, Severity::Fatal, Some(*b"0198")),
-            Rule::R54 => norm(12, 54, Severity::Warning, Some(*b"0106")),
-            Rule::R55 => norm(13, 55, Severity::Warning, Some(*b"0190")),
-            Rule::R57 => norm(14, 57, Severity::Warning, Some(*b"0217")),
-            Rule::R561 => norm(15, 561, Severity::Warning, Some(*b"9944")),
-            Rule::R562 => norm(16, 562, Severity::Warning, None),
+            Rule::R40 => row(0, 40, Fatal, Some(*b"0088"), Normalised),
+            Rule::R41 => row(1, 41, Fatal, Some(*b"0192"), Normalised),
+            Rule::R42 => row(2, 42, Fatal, Some(*b"0184"), AsItStands),
+            Rule::R43 => row(3, 43, Fatal, Some(*b"0208"), Normalised),
+            Rule::R44 => row(4, 44, Warning, Some(*b"0201"), Normalised),
+            Rule::R45 => row(5, 45, Warning, Some(*b"0210"), Normalised),
+            Rule::R46 => row(6, 46, Warning, Some(*b"9907"), Normalised),
+            Rule::R47 => row(7, 47, Warning, Some(*b"0211"), Normalised),
+            Rule::R49 => row(8, 49, Fatal, Some(*b"0007"), Normalised),
+            Rule::R50 => row(9, 50, Fatal, Some(*b"0151"), Normalised),
+            Rule::R52 => row(10, 52, Fatal, Some(*b"0096"), AsItStands),
+            Rule::R53 => row(11, 53, Fatal, Some(*b"0198"), AsItStands),
+            Rule::R54 => row(12, 54, Warning, Some(*b"0106"), Normalised),
+            Rule::R55 => row(13, 55, Warning, Some(*b"0190"), Normalised),
+            Rule::R57 => row(14, 57, Warning, Some(*b"0217"), Normalised),
+            Rule::R561 => row(15, 561, Warning, Some(*b"9944"), Normalised),
+            Rule::R562 => row(16, 562, Warning, None, Normalised),
         }
     }
 
