@@ -5,22 +5,18 @@ ghost use Rattle.lines.specs.Lines.{answers_to};
 ghost use Rattle.batch.specs.Batch.{BatchRight};
 ghost use Rattle.partyid.specs.Plain.{plain_answer};
 
-use super::plain::{PartyidAnswer, PartyidBatch, answer_numbers};
+use super::plain::{PartyidAnswer, PartyidBatch};
 
 #[unsafe(no_mangle)]
 pub extern "C" fn partyid_answer_line(line: &[u8]) -> PartyidAnswer
     ensures { result ≡ plain_answer (answer_of line.now) }
 {
-    answer_numbers(lines::answer_line(line))
+    PartyidAnswer::from(lines::answer_line(line))
 }
 
 #[unsafe(no_mangle)]
 pub extern "C" fn partyid_answer_lines(text: &[u8], out: &mut [u32]) -> PartyidBatch
     ensures { BatchRight answers_to text.now out.old out.new result.count result.used }
 {
-    let done = batch::answer_lines(text, out);
-    PartyidBatch {
-        count: done.count,
-        used: done.used,
-    }
+    PartyidBatch::from(batch::answer_lines(text, out))
 }

@@ -4,39 +4,39 @@ ghost use Rattle.checks.specs.Check.{check_of, iban_answer, creditor_answer, eas
 ghost use Rattle.guard.specs.Codes.{withdrawn_of};
 ghost use Rattle.partyid.specs.Plain.{plain_answer, plain_code};
 
-use super::plain::{PartyidAnswer, PartyidCode, answer_numbers, code_numbers};
+use super::plain::{PartyidAnswer, PartyidCode};
 
 #[unsafe(no_mangle)]
 pub extern "C" fn partyid_check(scheme: &[u8], term: u32, content: &[u8]) -> PartyidAnswer
     ensures { result ≡ plain_answer (check_of scheme.now term content.now) }
 {
-    answer_numbers(checks::check(scheme, term, content))
+    PartyidAnswer::from(checks::check(scheme, term, content))
 }
 
 #[unsafe(no_mangle)]
 pub extern "C" fn partyid_is_valid_iban_checksum(content: &[u8]) -> PartyidAnswer
     ensures { result ≡ plain_answer (iban_answer content.now) }
 {
-    answer_numbers(checks::is_valid_iban_checksum(content))
+    PartyidAnswer::from(checks::is_valid_iban_checksum(content))
 }
 
 #[unsafe(no_mangle)]
 pub extern "C" fn partyid_is_valid_creditor_identifier(content: &[u8]) -> PartyidAnswer
     ensures { result ≡ plain_answer (creditor_answer content.now) }
 {
-    answer_numbers(checks::is_valid_creditor_identifier(content))
+    PartyidAnswer::from(checks::is_valid_creditor_identifier(content))
 }
 
 #[unsafe(no_mangle)]
 pub extern "C" fn partyid_eas_value(scheme: &[u8], content: &[u8]) -> PartyidAnswer
     ensures { result ≡ plain_answer (eas_answer scheme.now content.now) }
 {
-    answer_numbers(checks::eas_value(scheme, content))
+    PartyidAnswer::from(checks::eas_value(scheme, content))
 }
 
 #[unsafe(no_mangle)]
 pub extern "C" fn partyid_withdrawn(code: &[u8]) -> PartyidCode
     ensures { result ≡ plain_code (withdrawn_of code.now) }
 {
-    code_numbers(guard::withdrawn(code))
+    PartyidCode::from(guard::withdrawn(code))
 }

@@ -5,13 +5,13 @@ ghost use Rattle.text.specs.White.{is_white};
 ghost use Rattle.text.specs.Answer.{normal_text, stripped_text};
 ghost use Rattle.partyid.specs.Plain.{plain_point, Shown};
 
-use super::plain::{PartyidPoint, PartyidText, plain, point};
+use super::plain::{PartyidPoint, PartyidText};
 
 #[unsafe(no_mangle)]
 pub extern "C" fn partyid_decode(content: &[u8], at: usize) -> PartyidPoint
     ensures { result ≡ plain_point (step_of (drop at content.now)) }
 {
-    point(text::decode(content, at))
+    PartyidPoint::from(text::decode(content, at))
 }
 
 #[unsafe(no_mangle)]
@@ -25,12 +25,12 @@ pub extern "C" fn partyid_is_white(c: u32) -> bool
 pub extern "C" fn partyid_normalize_space(content: &[u8], area: &mut [u8; 1024]) -> PartyidText
     ensures { Shown (normal_text content.now) result area.new }
 {
-    plain(text::normalize_into(content, area))
+    PartyidText::from(text::normalize_into(content, area))
 }
 
 #[unsafe(no_mangle)]
 pub extern "C" fn partyid_strip(content: &[u8], area: &mut [u8; 1024]) -> PartyidText
     ensures { Shown (stripped_text content.now) result area.new }
 {
-    plain(text::strip_into(content, area))
+    PartyidText::from(text::strip_into(content, area))
 }

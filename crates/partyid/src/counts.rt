@@ -3,13 +3,13 @@ ghost use Rattle.tally.specs.Tally.{fed};
 ghost use Rattle.batch.specs.Batch.{TallyRight};
 ghost use Rattle.partyid.specs.Plain.{FedPlain};
 
-use super::plain::{PartyidAnswer, PartyidBatch, answer_numbers};
+use super::plain::{PartyidAnswer, PartyidBatch};
 
 #[unsafe(no_mangle)]
 pub extern "C" fn partyid_tally_line(line: &[u8], counts: &mut [u32; 53]) -> PartyidAnswer
     ensures { FedPlain (fed counts.old line.now) result counts.new }
 {
-    answer_numbers(tally::feed_line(counts, line))
+    PartyidAnswer::from(tally::feed_line(counts, line))
 }
 
 #[unsafe(no_mangle)]
@@ -20,9 +20,5 @@ pub extern "C" fn partyid_tally_lines(
 ) -> PartyidBatch
     ensures { TallyRight text.now counts.old counts.new out.old out.new result.count result.used }
 {
-    let done = batch::tally_lines(text, counts, out);
-    PartyidBatch {
-        count: done.count,
-        used: done.used,
-    }
+    PartyidBatch::from(batch::tally_lines(text, counts, out))
 }

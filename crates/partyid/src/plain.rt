@@ -1,11 +1,11 @@
 // Answers as plain numbers, laid out as in C.
 ghost use Rattle.std.specs.Prelude.{◌≡◌};
-ghost use Rattle.partyid.specs.Plain.{plain_point, plain_text, plain_answer, plain_code, plain_done};
+ghost use Rattle.partyid.specs.Plain.{plain_point, plain_text, plain_answer, plain_code, plain_done, plain_batch};
 
-use answer::Answer;
-use corrections::Done;
+use answer::{Answer, Reason};
+use batch::Batch;
 use guard::Withdrawal;
-use text::{Kept, Step};
+use text::Point;
 
 // A code point and how many bytes it takes; length 0 is the refusal.
 #[repr(C)]
@@ -60,73 +60,103 @@ pub struct PartyidBatch {
     pub used: usize,
 }
 
-pub(crate) fn point(s: Step) -> PartyidPoint
-    ensures { result ≡ plain_point s }
-{
-    match s {
-        Step::Point(code, len) => PartyidPoint { code, len },
-        Step::Refused => PartyidPoint { code: 0, len: 0 },
+impl From<Option<Point>> for PartyidPoint {
+    ghost from_gives = { λ read plain. plain ≡ plain_point read };
+
+    #[tactic(auto, unfolding(crate::specs::Plain::plain_point))]
+    fn from(read: Option<Point>) -> PartyidPoint {
+        match read {
+            Some(Point { code, len }) => PartyidPoint { code, len },
+            None => PartyidPoint { code: 0, len: 0 },
+        }
     }
 }
 
-pub(crate) fn plain(k: Kept) -> PartyidText
-    ensures { result ≡ plain_text k.reason k.len }
-{
-    let why = k.reason;
-    PartyidText {
-        reason: why.number(),
-        len: k.len,
+impl From<Result<usize, Reason>> for PartyidText {
+    ghost from_gives = { λ kept plain. plain ≡ plain_text kept };
+
+    #[tactic(auto, unfolding(crate::specs::Plain::plain_text))]
+    fn from(kept: Result<usize, Reason>) -> PartyidText {
+        match kept {
+            Ok(len) => PartyidText { reason: 0, len },
+            Err(why) => PartyidText {
+                reason: u32::from(why),
+                len: 0,
+            },
+        }
     }
 }
 
-pub(crate) fn answer_numbers(a: Answer) -> PartyidAnswer
-    ensures { result ≡ plain_answer a }
-{
-    let verdict = a.verdict;
-    let severity = a.severity;
-    let reason = a.reason;
-    PartyidAnswer {
-        verdict: verdict.number(),
-        rule: a.rule,
-        severity: severity.number(),
-        reason: reason.number(),
+impl From<Answer> for PartyidAnswer {
+    ghost from_gives = { λ answer plain. plain ≡ plain_answer answer };
+
+    #[tactic(auto, unfolding(crate::specs::Plain::plain_answer, answer::specs::Answers::answer_numbers))]
+    fn from(answer: Answer) -> PartyidAnswer {
+        let [verdict, rule, severity, reason] = answer.numbers();
+        PartyidAnswer {
+            verdict,
+            rule,
+            severity,
+            reason,
+        }
     }
 }
 
-pub(crate) fn code_numbers(w: Withdrawal) -> PartyidCode
-    ensures { result ≡ plain_code w }
-{
-    match w {
-        Withdrawal::NotWithdrawn => PartyidCode {
-            answer: 0,
-            a: 0,
-            b: 0,
-            c: 0,
-            d: 0,
-        },
-        Withdrawal::NoSuccessor => PartyidCode {
-            answer: 1,
-            a: 0,
-            b: 0,
-            c: 0,
-            d: 0,
-        },
-        Withdrawal::Successor(s) => PartyidCode {
-            answer: 2,
-            a: s.a,
-            b: s.b,
-            c: s.c,
-            d: s.d,
-        },
+impl From<Option<Withdrawal>> for PartyidCode {
+    ghost from_gives = { λ code plain. plain ≡ plain_code code };
+
+    #[tactic(auto, unfolding(crate::specs::Plain::plain_code))]
+    fn from(code: Option<Withdrawal>) -> PartyidCode {
+        let Some(withdrawal) = code else {
+            return PartyidCode {
+                answer: 0,
+                a: 0,
+                b: 0,
+                c: 0,
+                d: 0,
+            };
+        };
+        match withdrawal.successor {
+            Some(code) => PartyidCode {
+                answer: 2,
+                a: code[0],
+                b: code[1],
+                c: code[2],
+                d: code[3],
+            },
+            None => PartyidCode {
+                answer: 1,
+                a: 0,
+                b: 0,
+                c: 0,
+                d: 0,
+            },
+        }
     }
 }
 
-pub(crate) fn done_numbers(r: Done) -> PartyidDone
-    ensures { result ≡ plain_done r }
-{
-    let reason = r.reason;
-    PartyidDone {
-        reason: reason.number(),
-        count: r.count,
+impl From<Result<usize, Reason>> for PartyidDone {
+    ghost from_gives = { λ done plain. plain ≡ plain_done done };
+
+    #[tactic(auto, unfolding(crate::specs::Plain::plain_done))]
+    fn from(done: Result<usize, Reason>) -> PartyidDone {
+        match done {
+            Ok(count) => PartyidDone { reason: 0, count },
+            Err(why) => PartyidDone {
+                reason: u32::from(why),
+                count: 0,
+            },
+        }
+    }
+}
+
+impl From<Batch> for PartyidBatch {
+    ghost from_gives = { λ done plain. plain ≡ plain_batch done };
+
+    fn from(done: Batch) -> PartyidBatch {
+        PartyidBatch {
+            count: done.count,
+            used: done.used,
+        }
     }
 }

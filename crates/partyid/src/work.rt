@@ -4,18 +4,18 @@ ghost use Rattle.corrections.specs.Completing.{completing};
 ghost use Rattle.corrections.specs.Listing.{listing};
 ghost use Rattle.partyid.specs.Plain.{Performed};
 
-use super::plain::{PartyidDone, done_numbers};
+use super::plain::PartyidDone;
 
 #[unsafe(no_mangle)]
 pub extern "C" fn partyid_complete(scheme: &[u8], body: &[u8], out: &mut [u8]) -> PartyidDone
     ensures { Performed (completing scheme.now body.now (length out.old)) out.old result out.new }
 {
-    done_numbers(corrections::complete(scheme, body, out))
+    PartyidDone::from(corrections::complete(scheme, body, out))
 }
 
 #[unsafe(no_mangle)]
 pub extern "C" fn partyid_list(scheme: &[u8], content: &[u8], out: &mut [u8]) -> PartyidDone
     ensures { Performed (listing scheme.now content.now (length out.old)) out.old result out.new }
 {
-    done_numbers(corrections::list(scheme, content, out))
+    PartyidDone::from(corrections::list(scheme, content, out))
 }
