@@ -11,12 +11,20 @@ NUMBERED = {
     "verdict": ("answer/specs/Numbers.antt", "verdict_number"),
     "severity": ("answer/specs/Numbers.antt", "severity_number"),
     "reason": ("answer/specs/Numbers.antt", "reason_number"),
-    "withdrawal": ("partyid/specs/Plain.antt", "plain_code"),
+}
+# the cases that the definitions write as None and Some, each with the place of the equation that gives its number
+PLACED = {
+    "severity": [("NoSeverity", "answer/specs/Numbers.antt", r"^or_zero number None = (\d+)$")],
+    "reason": [("NoReason", "answer/specs/Numbers.antt", r"^or_zero number None = (\d+)$")],
+    "withdrawal": [
+        ("NotWithdrawn", "partyid/specs/Plain.antt", r"^plain_code None = four_bytes (\d+) \[\]$"),
+        ("NoSuccessor", "partyid/specs/Plain.antt", r"^plain_successor None = four_bytes (\d+) \[\]$"),
+        ("Successor", "partyid/specs/Plain.antt", r"^plain_successor \(Some code\) = four_bytes (\d+) code$"),
+    ],
 }
 # the enums of an answer, which have words for a reader
 WORDED = ["verdict", "severity", "reason"]
-# a case = a number; a case with its argument = the record's maker with the number
-EQUATION = re.compile(r"\(?(\w+)(?: \w+\))? = (?:four_bytes )?(\d+)(?: .*)?")
+EQUATION = re.compile(r"(\w+) = (\d+)")
 
 STRUCT = re.compile(r"(#\[repr\(C\)\]\n(?:#\[.*\]\n)*)?pub struct (\w+) \{([^}]*)\}")
 FUNCTION = re.compile(r"#\[unsafe\(no_mangle\)\]\s+pub extern \"C\" fn (\w+)\(([^)]*)\)\s*->\s*(\w+)")
@@ -38,11 +46,6 @@ def equations(text: str, name: str) -> list[tuple[str, int]]:
     return found
 
 
-def cases(crates: pathlib.Path) -> dict[str, list[tuple[str, int]]]:
-    """Each enum with its cases as the definitions write them: {"verdict": [("NoRule", 0), ..]}."""
-    return {enum: equations((crates / file).read_text(), name) for enum, (file, name) in NUMBERED.items()}
-
-
 def number_in(crates: pathlib.Path, file: str, *patterns: str) -> str:
     """The one number that each of some places in a file gives."""
     text = (crates / file).read_text()
@@ -52,9 +55,20 @@ def number_in(crates: pathlib.Path, file: str, *patterns: str) -> str:
     return found.pop()
 
 
+def cases(crates: pathlib.Path) -> dict[str, list[tuple[str, int]]]:
+    """Each enum of the header with its cases by the definitions: {"verdict": [("NoRule", 0), ..]}."""
+    found = {}
+    for enum in [*NUMBERED, *(enum for enum in PLACED if enum not in NUMBERED)]:
+        found[enum] = [(name, int(number_in(crates, file, pattern))) for name, file, pattern in PLACED.get(enum, [])]
+        if enum in NUMBERED:
+            file, definition = NUMBERED[enum]
+            found[enum] += equations((crates / file).read_text(), definition)
+    return found
+
+
 def area(crates: pathlib.Path) -> str:
     return number_in(
-        crates, "text/specs/Answer.antt", r"^readable_of s = pick \(leb \(length s\) (\d+)\)", r"^padded l = l \+\+ replicate \((\d+) - length l\) 0$"
+        crates, "text/specs/Answer.antt", r"^readable_of s = pick \(nat_le \(length s\) (\d+)\)", r"^padded l = l \+\+ replicate \((\d+) - length l\) 0$"
     )
 
 
