@@ -1,55 +1,42 @@
 // The commands, by their first letter: what each calls, and how its answer is written.
 use super::escape::unescape;
-use super::many::show_batch;
-use super::tallies::{fed, show_counts, show_tallied};
+use super::many::{show_batch, show_numbers, show_tallied};
 use super::work::show_work;
 use answer::Answer;
-use shown::{behind, decimal, number, show_code, show_figure, show_steps, show_text, word_end};
+use shown::{decimal, show_code, show_figure, show_steps, show_text, split_word};
 use std::io;
 
 fn show_answer(rt: &impl Print, a: Answer) -> io::Result<()> {
-    let verdict = a.verdict;
-    let severity = a.severity;
-    let reason = a.reason;
-    number(rt, verdict.number() as u64)?;
-    number(rt, a.rule as u64)?;
-    number(rt, severity.number() as u64)?;
-    number(rt, reason.number() as u64)
+    show_numbers(rt, &a.numbers())
 }
 
 // A field: its scheme, its term and its content, parted by spaces.
 fn show_check(rt: &impl Print, field: &[u8]) -> io::Result<()> {
-    let scheme_end = word_end(field);
-    let start = behind(field);
-    let n = field.len();
-    let rest = &field[start..n];
-    let term_end = word_end(rest);
-    let content = behind(rest);
-    let m = rest.len();
-    let term = decimal(&rest[0..term_end]);
-    show_answer(
-        rt,
-        checks::check(&field[0..scheme_end], term, &rest[content..m]),
-    )
+    let (scheme, rest) = split_word(field);
+    let (term, content) = split_word(rest);
+    show_answer(rt, checks::check(scheme, decimal(term), content))
 }
 
 // A strict GLN: its scheme and its content.
 fn show_gln(rt: &impl Print, field: &[u8]) -> io::Result<()> {
-    let end = word_end(field);
-    let start = behind(field);
-    let n = field.len();
-    show_answer(rt, checks::eas_value(&field[0..end], &field[start..n]))
+    let (scheme, content) = split_word(field);
+    show_answer(rt, checks::eas_value(scheme, content))
 }
 
-// A line that is fed to a tally: its answer, and the counts after it.
+// A line that is fed to a tally with one count, which stands in a cell: the cell, the count and the line, parted by spaces. Its answer, and the counts
+// after it.
 fn show_fed(rt: &impl Print, field: &[u8]) -> io::Result<()> {
-    let done = fed(field);
-    let counts = done.counts;
+    let (cell, rest) = split_word(field);
+    let (count, line) = split_word(rest);
+    let cell = (decimal(cell) % 53) as usize;
+    let mut counts = tally::fresh();
+    counts[cell] = decimal(count);
+    let done = tally::feed(counts, line);
     show_answer(rt, done.answer)?;
-    show_counts(rt, &counts)
+    show_numbers(rt, &done.counts)
 }
 
-// Which function a command names.
+// Which function a command names. A function of another crate is handed on in a closure: of its name alone the check does not find the contract.
 fn call(rt: &impl Print, command: u8, content: &[u8]) -> io::Result<()> {
     match command {
         b'n' => show_text(rt, text::normalize_space(content)),
@@ -65,17 +52,26 @@ fn call(rt: &impl Print, command: u8, content: &[u8]) -> io::Result<()> {
         b'b' => show_batch(rt, content),
         b't' => show_tallied(rt, content),
         b'T' => show_fed(rt, content),
-        b'k' | b'l' => show_work(rt, command, content),
+        b'k' => show_work(
+            rt,
+            content,
+            |scheme, body, area| corrections::complete(scheme, body, area),
+        ),
+        b'l' => show_work(
+            rt,
+            content,
+            |scheme, number, area| corrections::list(scheme, number, area),
+        ),
         _ => rt.write_all(b" no such command"),
     }
 }
 
 pub(crate) fn run(rt: &impl Print, line: &[u8]) -> io::Result<()> {
-    if line.len() == 0 {
+    let Some(command) = line.first() else {
         return Ok(());
-    }
+    };
+    let (_, content) = split_word(line);
     let mut area = [0u8; 2048];
-    let start = behind(line);
-    let n = unescape(&line[start..], &mut area);
-    call(rt, line[0], &area[0..n])
+    let n = unescape(content, &mut area);
+    call(rt, *command, &area[..n])
 }

@@ -1,61 +1,37 @@
 // A content as it stands in a line: `\` and two hexadecimal digits are a byte, any other byte is itself.
-ghost use Rattle.std.specs.Prelude.{◌≡◌, ◌+◌, ◌≤◌, ◌<◌, length};
+ghost use Rattle.std.specs.Prelude.{◌<◌, ◌≤◌};
 
-// A hexadecimal digit's value, and 0 for any other byte.
+// A hexadecimal digit's value, and 0 for any other byte; a capital is none.
 fn hex_value(b: u8) -> u8
     ensures { result < 16 }
 {
-    if b < 48 {
-        return 0;
+    match b {
+        b'0'..=b'9' => b - b'0',
+        b'a'..=b'f' => b - b'a' + 10,
+        _ => 0,
     }
-    if b <= 57 {
-        return b - 48;
-    }
-    if b < 97 {
-        return 0;
-    }
-    if b <= 102 {
-        return b - 87;
-    }
-    0
 }
 
-#[derive(Clone, Copy)]
-struct Taken {
-    byte: u8,
-    width: usize,
-}
-
-// The byte that begins at `at`, and how much of the line it takes.
-fn take_byte(s: &[u8], at: usize) -> Taken
-    requires { at < length s.now }
-    ensures { (1 ≤ result.width) × (at + result.width ≤ length s.now) }
-{
-    let b = s[at];
-    if b == b'\\' {
-        if 2 < s.len() - at {
-            let byte = hex_value(s[at + 1]) * 16 + hex_value(s[at + 2]);
-            return Taken { byte, width: 3 };
-        }
+// The byte that begins a line, and what stands behind it.
+fn take_byte(s: &[u8]) -> Option<(u8, &[u8])> {
+    match s {
+        [b'\\', high, low, rest @ ..] => Some((hex_value(*high) * 16 + hex_value(*low), rest)),
+        [b, rest @ ..] => Some((*b, rest)),
+        [] => None,
     }
-    Taken { byte: b, width: 1 }
 }
 
 // The content goes to the area; its length comes back. What the area can't hold is left out.
 pub(crate) fn unescape(s: &[u8], out: &mut [u8; 2048]) -> usize
-    requires { length out.old ≡ 2048 }
-    ensures { (result ≤ 2048) × (length out.new ≡ 2048) }
+    ensures { result ≤ 2048 }
 {
-    let mut n: usize = 0;
-    let mut at: usize = 0;
-    while at < s.len() {
-        if n == 2048 {
+    let mut rest = s;
+    for (n, place) in out.iter_mut().enumerate() {
+        let Some((byte, behind)) = take_byte(rest) else {
             return n;
-        }
-        let t = take_byte(s, at);
-        out[n] = t.byte;
-        n += 1;
-        at += t.width;
+        };
+        *place = byte;
+        rest = behind;
     }
-    n
+    2048
 }

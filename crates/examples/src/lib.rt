@@ -6,42 +6,23 @@ ghost use Rattle.std.specs.Prelude.{◌≡◌, ◌≤◌, length, IfOk};
 mod commands;
 mod escape;
 mod many;
-mod tallies;
 mod work;
 
 use std::io;
 use std::io::Read;
 
-// Where the line that begins at `at` ends: at its newline, or at the end.
-fn line_end(s: &[u8], at: usize) -> usize
-    requires { at ≤ length s.now }
-    ensures { (at ≤ result) × (result ≤ length s.now) }
-{
-    let mut i = at;
-    while i < s.len() {
-        if s[i] == b'\n' {
-            return i;
-        }
-        i += 1;
-    }
-    i
-}
-
 fn run_all(rt: &impl Print, s: &[u8]) -> io::Result<()> {
-    let mut at: usize = 0;
-    while at < s.len() {
-        let end = line_end(s, at);
-        let line = &s[at..end];
+    for line in s.split_inclusive(|b| *b == b'\n') {
+        let line = line.strip_suffix(b"\n").unwrap_or(line);
         rt.write_all(line)?;
         rt.write_all(b" =>")?;
         commands::run(rt, line)?;
         rt.write_all(b"\n")?;
-        at = end + 1;
     }
     Ok(())
 }
 
-// Room for all examples. The length in the promise is what lending the array asks for.
+// Room for all examples. The length in the promise is what lending the array asks for: without this function the check runs out of stack.
 fn room() -> [u8; 524288]
     ensures { 524288 ≡ length result }
 {

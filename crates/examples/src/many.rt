@@ -1,39 +1,42 @@
-// Many lines at once, answered in an area of numbers, which is shown whole.
-ghost use Rattle.std.specs.Prelude.{◌≤◌};
-
-use shown::{at_most, behind, decimal, number, word_end};
+// Many lines at once, in an area of numbers, which is shown whole.
+use batch::Batch;
+use shown::{decimal_up_to, split_word};
 use std::io;
 
-fn show_number(rt: &impl Print, n: u32) -> io::Result<()> {
-    number(rt, n as u64)
-}
-
 pub(crate) fn show_numbers(rt: &impl Print, numbers: &[u32]) -> io::Result<()> {
-    let mut i: usize = 0;
-    while i < numbers.len() {
-        show_number(rt, numbers[i])?;
-        i += 1;
+    for n in numbers {
+        print!(rt; " {n}")?;
     }
     Ok(())
 }
 
-// In an area of so many numbers that no answer has.
-fn show_in(rt: &impl Print, room: usize, text: &[u8]) -> io::Result<()>
-    requires { room ≤ 64 }
+// The room and the text, parted by a space. The area is of so many numbers that no answer has.
+fn show_lines<F: FnOnce(&[u8], &mut [u32]) -> Batch>(
+    rt: &impl Print,
+    field: &[u8],
+    answer: F,
+) -> io::Result<()>
+    requires { F.IsAlwaysCallable answer }
 {
+    let (room, text) = split_word(field);
     let mut numbers = [999u32; 64];
-    let area = &mut numbers[0..room];
-    let done = batch::answer_lines(text, area);
-    number(rt, done.count as u64)?;
-    number(rt, done.used as u64)?;
+    let area = &mut numbers[..decimal_up_to(room, 64)];
+    let done = answer(text, area);
+    print!(rt; " {} {}", done.count, done.used)?;
     show_numbers(rt, area)
 }
 
-// The room and the text, parted by a space.
 pub(crate) fn show_batch(rt: &impl Print, field: &[u8]) -> io::Result<()> {
-    let room_end = word_end(field);
-    let start = behind(field);
-    let n = field.len();
-    let room = at_most(decimal(&field[0..room_end]), 64);
-    show_in(rt, room, &field[start..n])
+    show_lines(rt, field, |text, area| batch::answer_lines(text, area))
+}
+
+// The same lines fed to a tally, and its counts.
+pub(crate) fn show_tallied(rt: &impl Print, field: &[u8]) -> io::Result<()> {
+    let mut counts = tally::fresh();
+    show_lines(
+        rt,
+        field,
+        |text, area| batch::tally_lines(text, &mut counts, area),
+    )?;
+    show_numbers(rt, &counts)
 }

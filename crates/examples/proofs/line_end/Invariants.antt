@@ -1,9 +1,0 @@
--- `examples::line_end` stays within the input.
-use Rattle.std.proofs.Common.{length, ◌-◌, ◌≤◌}
-use Rattle.examples.proofs.line_end.Given as goal
-
-abbrev pub invariant-loop-i : goal.invariant-loop-i
-invariant-loop-i l = (l.at ≤ l.i) × (l.i ≤ length l.s)
-
-abbrev pub decreases-loop-i : goal.decreases-loop-i
-decreases-loop-i l = length l.s - l.i
