@@ -1,20 +1,47 @@
 -- What holds of every reason. Assumes nothing.
-use Prim.Native.Nat.{◌<◌}
-use native.Mathlib.Omega.{arith}
+use mathlib.Core.Path.{◌≡◌, refl}
+use mathlib.Core.Bool.{Bool, true, ◌&&◌}
+use mathlib.Core.List.{List, [], ◌∷◌}
+use Prim.Native.Nat.{ℕ, zero, suc, pred, ◌<◌}
+use borrow.Author.Tests.{ltb-true}
+use lib.Dec.{ltb}
+use lib.ListN.{get_or}
+use Rattle.ascii.proofs.Tests.{and_true}
 use Rattle.answer.specs.declared.reason.Reason.{Reason}
 use Rattle.answer.specs.declared.reason.Reason.TheVariants.{Long, Utf8, Form, Check, Zero, NoFigure, Scheme, Room, Good, Term, Line, Full}
 use Rattle.answer.specs.Numbers.{reason_number}
 
+-- in the order of their numbers
+abbrev reasons : List Reason
+reasons =
+    Long ∷ Utf8 ∷ Form ∷ Check ∷ Zero ∷ NoFigure ∷ Scheme ∷ Room ∷ Good ∷ Term ∷ Line ∷ Full ∷ []
+
+stands : (r : Reason) → get_or reasons (pred (reason_number r)) Long ≡ r
+stands Long = refl
+stands Utf8 = refl
+stands Form = refl
+stands Check = refl
+stands Zero = refl
+stands NoFigure = refl
+stands Scheme = refl
+stands Room = refl
+stands Good = refl
+stands Term = refl
+stands Line = refl
+stands Full = refl
+
+abbrev each : (Reason → Bool) → List Reason → Bool
+each p [] = true
+each p (r ∷ rs) = p r && each p rs
+
+each_at : (p : Reason → Bool) (rs : List Reason) (i : ℕ) → each p rs ≡ true → p Long ≡ true → p (get_or rs i Long) ≡ true
+each_at p [] i e n = n
+each_at p (r ∷ rs) zero e n = (and_true (p r) (each p rs) e).0
+each_at p (r ∷ rs) (suc i) e n = each_at p rs i (and_true (p r) (each p rs) e).1 n
+
+-- a test that passes at each of them, by computing
+pub every_reason : (p : Reason → Bool) → each p reasons ≡ true → (r : Reason) → p r ≡ true
+every_reason p e r = rw (stands r) at (each_at p reasons (pred (reason_number r)) e (and_true (p Long) _ e).0)
+
 pub reason_small : (r : Reason) → reason_number r < 100
-reason_small Long = omega arith
-reason_small Utf8 = omega arith
-reason_small Form = omega arith
-reason_small Check = omega arith
-reason_small Zero = omega arith
-reason_small NoFigure = omega arith
-reason_small Scheme = omega arith
-reason_small Room = omega arith
-reason_small Good = omega arith
-reason_small Term = omega arith
-reason_small Line = omega arith
-reason_small Full = omega arith
+reason_small r = ltb-true _ _ (every_reason (λ r. ltb (reason_number r) 100) refl r)

@@ -10,7 +10,7 @@ use lib.ListN.{length, set, length-append}
 use borrow.Author.Tests.{lt-ltb, le-ltb, ltb-true, ltb-false}
 use Rattle.ascii.specs.Area.{Put}
 use Rattle.ascii.specs.Pick.{pick}
-use Rattle.ascii.proofs.Area.{put_size, put_more, put_most, put_stores}
+use Rattle.ascii.proofs.Area.{put_size, put_more, put_stores}
 use Rattle.answer.specs.Text.{in_digits, numeral, field}
 
 -- by whether it has one digit
