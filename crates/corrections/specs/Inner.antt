@@ -1,8 +1,5 @@
 -- What the code's inner functions promise. No rule cites this.
-use Rattle.std.specs.Prelude.{◌≡◌, ◌==◌, Bool, Option, Some, None, Ok, List, [], ◌∷◌, ℕ}
-use Rattle.ascii.specs.Pick.{pick}
-use Rattle.answer.specs.declared.reason.Reason.{Reason}
-use Rattle.answer.specs.declared.reason.Reason.TheVariants.{Zero, NoFigure}
+use Rattle.std.specs.Prelude.{◌≡◌, Option, Some, None, Ok, List, [], ◌∷◌, ℕ}
 use Rattle.forms.specs.Form.{fault_of}
 use Rattle.figures.specs.Figures.{Figure, adds, total_by}
 use Rattle.figures.specs.Inner.{figure_by, weight_by, placed}
@@ -26,10 +23,6 @@ places_of k = placed 20 (weight_by (row k).figure)
 pub record Summed (k : Five) (s : List ℕ) (sum : ℕ) : Type 0 where
   pub formed : fault_of (number_form k) s ≡ Ok tt
   pub sum_is : sum ≡ total_by (adds_by k) s
-
--- why a body has no figure, by its total and its check
-unfoldable pub why_none : Bool → ℕ → ℕ → Option Reason
-why_none gaps t check = pick gaps (pick (t == 0) (Some Zero) (pick (check == 10) (Some NoFigure) None)) None
 
 -- the number with the digit that was found for place i, if there is one
 abbrev pub mended : List ℕ → ℕ → Option ℕ → List (List ℕ)

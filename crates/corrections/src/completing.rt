@@ -2,27 +2,10 @@
 ghost use Rattle.std.specs.Prelude.{◌≡◌, ◌≤◌, length};
 ghost use Rattle.corrections.specs.Outcome.{success, Works};
 ghost use Rattle.corrections.specs.Completing.{completed_by, completing};
-ghost use Rattle.corrections.specs.Inner.{why_none};
 
 use super::five::{Five, five_of};
 use answer::Reason;
 use figures::{lacking, sum_of, weights_of};
-
-// Why a body has no figure, by its total and its check: ZERO or NO_FIGURE, where there can be none.
-#[tactic(auto, unfolding(crate::specs::Inner::why_none, ascii::specs::Pick::pick))]
-fn why_none(gaps: bool, total: u64, check: u64) -> Option<Reason>
-    ensures { result ≡ why_none gaps total check }
-{
-    if gaps {
-        if total == 0 {
-            return Some(Reason::Zero);
-        }
-        if check == 10 {
-            return Some(Reason::NoFigure);
-        }
-    }
-    None
-}
 
 // A figure at the area's start.
 fn put_figure(figure: &[u8], out: &mut [u8]) -> usize
@@ -49,10 +32,7 @@ fn complete_by(kind: Five, body: &[u8], out: &mut [u8]) -> Result<usize, Reason>
     ) else {
         return Err(Reason::Form);
     };
-    let check = lacking(row.figure, total);
-    if let Some(why) = why_none(row.gaps, total, check) {
-        return Err(why);
-    }
+    let check = lacking(row.figure, total)?;
     if out.len() < 2 {
         return Err(Reason::Room);
     }
