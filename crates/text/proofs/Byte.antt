@@ -1,20 +1,19 @@
 -- A byte of 0x21 to 0x7F is a code point by itself, and not white.
-use mathlib.Core.Path.{◌≡◌, sym, ◌∙◌}
-use mathlib.Core.List.{List}
+use mathlib.Core.Path.{◌≡◌, sym}
+use mathlib.Core.List.{List, ◌∷◌}
 use mathlib.Core.Bool.{true, false}
-use Prim.Native.Nat.{ℕ, ◌<◌}
-use native.Mathlib.Omega.{arith}
-use lib.ListN.{length, get_or, drop}
-use Rattle.ascii.specs.Class.{within}
+use Prim.Native.Nat.{ℕ}
+use borrow.Author.Tests.{tests}
+use Rattle.std.proofs.Common.{arith}
+use Rattle.ascii.specs.Class.{within, among}
 use Rattle.ascii.proofs.Class.{bounds}
-use Rattle.text.specs.Utf8.{point}
-use Rattle.text.specs.Utf8.{step_of}
-use Rattle.text.specs.White.{is_white}
-use Rattle.text.proofs.Rows.{at_byte, row_1}
-use Rattle.text.proofs.Dark.{between}
+use Rattle.text.specs.Utf8.{point, step_of}
+use Rattle.text.specs.White.{white_points, is_white}
+use Rattle.text.proofs.Rows.{row_1}
 
 pub dark_byte : (b : ℕ) → within 0x21 0x7f b ≡ true → is_white b ≡ false
-dark_byte b e = let r = bounds 0x21 0x7f b e in sym (between b (omega arith) (omega arith))
+unfolding is_white white_points among
+dark_byte b e = let r = bounds 0x21 0x7f b e in grind (arith, tests)
 
-pub dark_step : (s : List ℕ) (at : ℕ) → at < length s → within 0x21 0x7f (get_or s at 0) ≡ true → point (get_or s at 0) 1 ≡ step_of (drop at s)
-dark_step s at h e = let r = bounds 0x21 0x7f (get_or s at 0) e in sym (at_byte s at h ∙ row_1 _ _ r.1)
+pub dark_step : (b : ℕ) (l : List ℕ) → within 0x21 0x7f b ≡ true → point b 1 ≡ step_of (b ∷ l)
+dark_step b l e = let r = bounds 0x21 0x7f b e in sym (row_1 b l r.1)

@@ -8,7 +8,7 @@ use native.Mathlib.Omega.{arith}
 use borrow.Author.Tests.{leb-true}
 use lib.Dec.{leb}
 use lib.ListN.{length, take, drop, length-drop, drop_of_length-le}
-use lib.Seq.{drop-nil, drop-drop, drop-cons}
+use lib.Seq.{drop-nil, drop-drop}
 use Rattle.text.specs.declared.utf8.Point.{Point}
 use Rattle.std.specs.Prelude.{Option, None, Ok}
 use Rattle.std.proofs.lemmas.Option.{same_Some}
@@ -122,6 +122,19 @@ unread_ascii o (a ∷ l) e =
     rw (row_1 a l (leb-true a 0x7f (all_first _ a l e)))
     (sym (unread_first _ (content_from (suc o) 0 l)) ∙ unread_ascii (suc o) l (all_rest _ a l e))
 
+pub unread_on : (o c n : ℕ) (l : List ℕ) → point c n ≡ step_of l → why_refused (content_from (o + n) 0 (drop n l)) ≡ why_refused (content_from o 0 l)
+unread_on o c n l e = rw (unroll_list o c n l e) (unread_first _ (content_from (o + n) 0 (drop n l)))
+
+pub stuck : (o : ℕ) (l : List ℕ) → 1 ≤ length l → None ≡ step_of l → content_from o 0 l ≡ malformed
+unfolding content_from
+stuck o [] h e = absurd (omega arith)
+stuck o (a ∷ l) h e = rw (← e)
+
+pub none_left : (o : ℕ) (l : List ℕ) → length l < 1 → content_from o 0 l ≡ content []
+unfolding content_from
+none_left o [] h = refl
+none_left o (a ∷ l) h = absurd (omega arith)
+
 module _ (s : List ℕ) (at : ℕ) where
   abbrev pub rest : Content
   rest = content_from at 0 (drop at s)
@@ -133,12 +146,8 @@ module _ (s : List ℕ) (at : ℕ) where
       → rest ≡ with_first (record { at = at; code = c; bytes = take n (drop at s) }) (content_from (at + n) 0 (drop (at + n) s))
   unroll c n e = rw (← drop-drop n at s) (unroll_list at c n (drop at s) e)
 
-  pub unread_on : (c n : ℕ) → point c n ≡ step_of (drop at s) → why_refused (content_from (at + n) 0 (drop (at + n) s)) ≡ why_refused rest
-  unread_on c n e = rw (unroll c n e) (unread_first _ (content_from (at + n) 0 (drop (at + n) s)))
-
   pub at_refused : at < length s → None ≡ step_of (drop at s) → rest ≡ malformed
-  unfolding content_from
-  at_refused h e = rw (drop-cons s at 0 h, ← (e ∙ ap step_of (drop-cons s at 0 h)))
+  at_refused h e = stuck at (drop at s) (simp length-drop (omega arith)) e
 
   pub at_last : length s ≤ at → rest ≡ content []
   unfolding content_from
@@ -150,10 +159,10 @@ on_content_first p malformed f g e = refl
 on_content_first p (content ps) f g e = rw (e ps)
 
 -- one turn: the point that was read goes from what is left to what is done
-pub advance : (s : List ℕ) (at c n : ℕ) (f g : List Piece → List Cell) → point c n ≡ step_of (drop at s)
-    → ((ps : List Piece) → f (record { at = at; code = c; bytes = take n (drop at s) } ∷ ps) ≡ g ps)
-    → on_content (rest s (at + n)) g ≡ on_content (rest s at) f
-advance s at c n f g e h = rw (unroll s at c n e) (sym (on_content_first _ (rest s (at + n)) f g h))
+pub advance : (o c n : ℕ) (l : List ℕ) (f g : List Piece → List Cell) → point c n ≡ step_of l
+    → ((ps : List Piece) → f (record { at = o; code = c; bytes = take n l } ∷ ps) ≡ g ps)
+    → on_content (content_from (o + n) 0 (drop n l)) g ≡ on_content (content_from o 0 l) f
+advance o c n l f g e h = rw (unroll_list o c n l e) (sym (on_content_first _ (content_from (o + n) 0 (drop n l)) f g h))
 
 -- what stands in the area
 abbrev pub texts : List Cell → List ℕ

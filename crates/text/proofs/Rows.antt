@@ -1,37 +1,18 @@
 -- The rows of RFC 3629's table as laws of `step_of`, `two`, `three` and `four`, each under the tests that pick it.
-use mathlib.Core.Path.{◌≡◌, refl, sym, ap, ◌∙◌}
+use mathlib.Core.Path.{◌≡◌, refl, ◌∙◌}
 use mathlib.Core.List.{List, [], ◌∷◌}
-use mathlib.Core.Bool.{true, false, ◌&&◌, and-false}
+use mathlib.Core.Bool.{true, false, ◌&&◌}
+use mathlib.Core.Logic.{◌⊎◌, inl, inr}
 use Prim.Native.Nat.{ℕ, ◌+◌, ◌*◌, ◌%◌, ◌≤◌, ◌<◌}
 use native.Mathlib.Omega.{arith}
-use lib.ListN.{length, get_or, drop, length-drop, drop_of_length-le}
+use lib.ListN.{length, get_or, drop, drop_of_length-le}
 use Rattle.ascii.proofs.Class.{inside, below, above}
 use borrow.Author.Tests.{ltb-true}
 use lib.Dec.{ltb}
-use Rattle.text.proofs.Cut.{cut, cut2, cut3}
 use Rattle.std.specs.Prelude.{None}
 use Rattle.ascii.specs.Class.{within}
 use Rattle.ascii.specs.Pick.{pick}
 use Rattle.text.specs.Utf8.{point, two, three, four, step_of}
-
--- a sequence that the end cuts off
-two_short : (a : ℕ) (l : List ℕ) → length l < 1 → two a l ≡ None
-unfolding two
-two_short a [] h = refl
-two_short a (b ∷ l) h = absurd (omega arith)
-
-three_short : (a low high : ℕ) (l : List ℕ) → length l < 2 → three a low high l ≡ None
-unfolding three
-three_short a low high [] h = refl
-three_short a low high (b ∷ []) h = refl
-three_short a low high (b ∷ c ∷ l) h = absurd (omega arith)
-
-four_short : (a low high : ℕ) (l : List ℕ) → length l < 3 → four a low high l ≡ None
-unfolding four
-four_short a low high [] h = refl
-four_short a low high (b ∷ []) h = refl
-four_short a low high (b ∷ c ∷ []) h = refl
-four_short a low high (b ∷ c ∷ d ∷ l) h = absurd (omega arith)
 
 -- a byte from n on is past every row that ends before n
 past : (a n : ℕ) → n ≤ a → (low high : ℕ) → ltb high n ≡ true → within low high a ≡ false
@@ -95,82 +76,56 @@ module _ (a : ℕ) (l : List ℕ) where
   unfolding pick
   row_f5 h = past_f0 (omega arith) ∙ rw (above 0xf1 0xf3 a (omega arith), above 0xf4 0xf4 a h)
 
--- The same at a place of a list, as the code meets it.
-module _ (s : List ℕ) (at : ℕ) where
-  pub at_byte : at < length s → step_of (drop at s) ≡ step_of (get_or s at 0 ∷ drop (at + 1) s)
-  at_byte h = ap step_of (cut s at (at + 1) h refl)
+-- all but the first
+pub ruleset rows = (row_gap, row_2, row_e0, row_e1, row_ed, row_ee, row_f0, row_f1, row_f4, row_f5)
 
-  pub at_end : length s ≤ at → None ≡ step_of (drop at s)
-  unfolding step_of pick
-  at_end h = rw (drop_of_length-le s h)
+-- no bytes begin with a code point
+pub past_end : (s : List ℕ) (at : ℕ) → (length s < at) ⊎ (length s < length s) → None ≡ step_of (drop at s)
+unfolding step_of
+past_end s at (inl h) = let k : length s ≤ at = omega arith in rw (drop_of_length-le s k)
+past_end s at (inr h) = absurd (omega arith)
 
-  module _ (a : ℕ) where
-    pub two_cut : length s < at + 2 → None ≡ two a (drop (at + 1) s)
-    two_cut h = sym (two_short a (drop (at + 1) s) (simp length-drop (omega arith)))
+-- What follows a first byte, by the bytes that stand there.
+module _ (a : ℕ) where
+  pub two_good : (l : List ℕ) (x y : ℕ) → 1 ≤ length l → within 0x80 0xbf (get_or l 0 0) ≡ true → x ≡ a → y ≡ get_or l 0 0
+      → point (x % 32 * 64 + y % 64) 2 ≡ two a l
+  unfolding two pick
+  two_good [] x y h e p q = absurd (omega arith)
+  two_good (b ∷ l) x y h e p q = rw (e, p, q)
 
-    two_at : at + 1 < length s → two a (drop (at + 1) s)
-        ≡ pick (within 0x80 0xbf (get_or s (at + 1) 0)) (point (a % 32 * 64 + get_or s (at + 1) 0 % 64) 2) None
-    unfolding two
-    two_at h = rw (cut s (at + 1) (at + 2) h (omega arith))
+  pub two_bad : (l : List ℕ) → 1 ≤ length l → within 0x80 0xbf (get_or l 0 0) ≡ false → None ≡ two a l
+  unfolding two pick
+  two_bad [] h e = absurd (omega arith)
+  two_bad (b ∷ l) h e = rw e
 
-    pub two_bad : at + 1 < length s → within 0x80 0xbf (get_or s (at + 1) 0) ≡ false → None ≡ two a (drop (at + 1) s)
-    unfolding pick
-    two_bad h e = rw (two_at h, e)
+  module _ (low high : ℕ) where
+    pub three_good : (l : List ℕ) (x y z : ℕ) → 2 ≤ length l → within low high (get_or l 0 0) && within 0x80 0xbf (get_or l 1 0) ≡ true
+        → x ≡ a → y ≡ get_or l 0 0 → z ≡ get_or l 1 0 → point (x % 16 * 4096 + y % 64 * 64 + z % 64) 3 ≡ three a low high l
+    unfolding three pick
+    three_good [] x y z h e p q r = absurd (omega arith)
+    three_good (b ∷ []) x y z h e p q r = absurd (omega arith)
+    three_good (b ∷ c ∷ l) x y z h e p q r = rw (e, p, q, r)
 
-    pub two_good : (x y : ℕ) → at + 1 < length s → within 0x80 0xbf (get_or s (at + 1) 0) ≡ true → x ≡ a → y ≡ get_or s (at + 1) 0
-        → point (x % 32 * 64 + y % 64) 2 ≡ two a (drop (at + 1) s)
-    unfolding pick
-    two_good x y h e p q = rw (two_at h, e, p, q)
+    pub three_bad : (l : List ℕ) → 2 ≤ length l → within low high (get_or l 0 0) && within 0x80 0xbf (get_or l 1 0) ≡ false → None ≡ three a low high l
+    unfolding three pick
+    three_bad [] h e = absurd (omega arith)
+    three_bad (b ∷ []) h e = absurd (omega arith)
+    three_bad (b ∷ c ∷ l) h e = rw e
 
-    module _ (low high : ℕ) where
-      pub three_cut : length s < at + 3 → None ≡ three a low high (drop (at + 1) s)
-      three_cut h = sym (three_short a low high (drop (at + 1) s) (simp length-drop (omega arith)))
+    pub four_good : (l : List ℕ) (x y z w : ℕ) → 3 ≤ length l
+        → within low high (get_or l 0 0) && within 0x80 0xbf (get_or l 1 0) && within 0x80 0xbf (get_or l 2 0) ≡ true
+        → x ≡ a → y ≡ get_or l 0 0 → z ≡ get_or l 1 0 → w ≡ get_or l 2 0
+        → point (x % 8 * 262144 + y % 64 * 4096 + z % 64 * 64 + w % 64) 4 ≡ four a low high l
+    unfolding four pick
+    four_good [] x y z w h e p q r t = absurd (omega arith)
+    four_good (b ∷ []) x y z w h e p q r t = absurd (omega arith)
+    four_good (b ∷ c ∷ []) x y z w h e p q r t = absurd (omega arith)
+    four_good (b ∷ c ∷ d ∷ l) x y z w h e p q r t = rw (e, p, q, r, t)
 
-      three_at : at + 2 < length s → three a low high (drop (at + 1) s)
-          ≡ pick (within low high (get_or s (at + 1) 0) && within 0x80 0xbf (get_or s (at + 2) 0))
-          (point (a % 16 * 4096 + get_or s (at + 1) 0 % 64 * 64 + get_or s (at + 2) 0 % 64) 3) None
-      unfolding three
-      three_at h = rw (cut2 s (at + 1) (at + 2) (at + 3) h (omega arith) (omega arith))
-
-      pub three_bad_b : at + 2 < length s → within low high (get_or s (at + 1) 0) ≡ false → None ≡ three a low high (drop (at + 1) s)
-      unfolding pick
-      three_bad_b h e = rw (three_at h, e)
-
-      pub three_bad_c : at + 2 < length s → within 0x80 0xbf (get_or s (at + 2) 0) ≡ false → None ≡ three a low high (drop (at + 1) s)
-      unfolding pick
-      three_bad_c h e = rw (three_at h, e, and-false (within low high (get_or s (at + 1) 0)))
-
-      pub three_good : (x y z : ℕ) → at + 2 < length s
-          → within low high (get_or s (at + 1) 0) ≡ true → within 0x80 0xbf (get_or s (at + 2) 0) ≡ true
-          → x ≡ a → y ≡ get_or s (at + 1) 0 → z ≡ get_or s (at + 2) 0
-          → point (x % 16 * 4096 + y % 64 * 64 + z % 64) 3 ≡ three a low high (drop (at + 1) s)
-      unfolding pick
-      three_good x y z h e f p q r = rw (three_at h, e, f, p, q, r)
-
-      pub four_cut : length s < at + 4 → None ≡ four a low high (drop (at + 1) s)
-      four_cut h = sym (four_short a low high (drop (at + 1) s) (simp length-drop (omega arith)))
-
-      four_at : at + 3 < length s → four a low high (drop (at + 1) s)
-          ≡ pick (within low high (get_or s (at + 1) 0) && within 0x80 0xbf (get_or s (at + 2) 0) && within 0x80 0xbf (get_or s (at + 3) 0))
-          (point (a % 8 * 262144 + get_or s (at + 1) 0 % 64 * 4096 + get_or s (at + 2) 0 % 64 * 64 + get_or s (at + 3) 0 % 64) 4) None
-      unfolding four
-      four_at h = rw (cut3 s (at + 1) (at + 2) (at + 3) (at + 4) h (omega arith) (omega arith) (omega arith))
-
-      pub four_bad_b : at + 3 < length s → within low high (get_or s (at + 1) 0) ≡ false → None ≡ four a low high (drop (at + 1) s)
-      unfolding pick
-      four_bad_b h e = rw (four_at h, e)
-
-      pub four_bad_c : at + 3 < length s → within 0x80 0xbf (get_or s (at + 2) 0) ≡ false → None ≡ four a low high (drop (at + 1) s)
-      unfolding pick
-      four_bad_c h e = rw (four_at h, e, and-false (within low high (get_or s (at + 1) 0)))
-
-      pub four_bad_d : at + 3 < length s → within 0x80 0xbf (get_or s (at + 3) 0) ≡ false → None ≡ four a low high (drop (at + 1) s)
-      unfolding pick
-      four_bad_d h e = rw (four_at h, e, and-false (within low high (get_or s (at + 1) 0) && within 0x80 0xbf (get_or s (at + 2) 0)))
-
-      pub four_good : (x y z w : ℕ) → at + 3 < length s
-          → within low high (get_or s (at + 1) 0) ≡ true → within 0x80 0xbf (get_or s (at + 2) 0) ≡ true → within 0x80 0xbf (get_or s (at + 3) 0) ≡ true
-          → x ≡ a → y ≡ get_or s (at + 1) 0 → z ≡ get_or s (at + 2) 0 → w ≡ get_or s (at + 3) 0
-          → point (x % 8 * 262144 + y % 64 * 4096 + z % 64 * 64 + w % 64) 4 ≡ four a low high (drop (at + 1) s)
-      unfolding pick
-      four_good x y z w h e f g p q r t = rw (four_at h, e, f, g, p, q, r, t)
+    pub four_bad : (l : List ℕ) → 3 ≤ length l
+        → within low high (get_or l 0 0) && within 0x80 0xbf (get_or l 1 0) && within 0x80 0xbf (get_or l 2 0) ≡ false → None ≡ four a low high l
+    unfolding four pick
+    four_bad [] h e = absurd (omega arith)
+    four_bad (b ∷ []) h e = absurd (omega arith)
+    four_bad (b ∷ c ∷ []) h e = absurd (omega arith)
+    four_bad (b ∷ c ∷ d ∷ l) h e = rw e

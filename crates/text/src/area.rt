@@ -1,8 +1,10 @@
 // A text in its working area, and what puts bytes there.
-ghost use Rattle.std.specs.Prelude.{◌≡◌, ◌+◌, ◌≤◌, length, take, drop};
+ghost use Rattle.std.specs.Prelude.{◌≡◌, ◌+◌, ◌≤◌, length, take};
 ghost use Rattle.ascii.specs.Area.{put};
 ghost use Rattle.text.specs.Answer.{refusal, text_in};
+ghost use Rattle.text.specs.Inner.{IsRun};
 
+use super::white::is_dark_byte;
 use answer::Reason;
 
 // A text in its working area: its length, its bytes, and zeros after them; or why it is refused, and zeros alone.
@@ -16,10 +18,7 @@ pub struct Text {
 pub fn first_bytes(area: &[u8], n: usize) -> &[u8]
     ensures { result.now ≡ take n area.now }
 {
-    if n <= area.len() {
-        return &area[0..n];
-    }
-    area
+    area.get(..n).unwrap_or(area)
 }
 
 pub(crate) fn refuse(reason: Reason, out: &mut [u8; 1024]) -> Result<usize, Reason>
@@ -29,26 +28,31 @@ pub(crate) fn refuse(reason: Reason, out: &mut [u8; 1024]) -> Result<usize, Reas
     Err(reason)
 }
 
-// The k bytes from `at` go to the area, from n on.
-pub(crate) fn copy_all(s: &[u8], at: usize, k: usize, out: &mut [u8; 1024], n: usize)
-    requires { (at + k ≤ length s.now) × (n + k ≤ 1024) × (length out.old ≡ 1024) }
-    ensures { out.new ≡ put out.old n (take k (drop at s.now)) }
+// The bytes of a code point go to the area, from n on. Tried with copy_from_slice, which is slower: it calls memmove for two to four bytes.
+pub(crate) fn put(out: &mut [u8; 1024], n: usize, bytes: &[u8])
+    requires { (n + length bytes.now ≤ 1024) × (length out.old ≡ 1024) }
+    ensures { out.new ≡ put out.old n bytes.now }
 {
-    let mut j: usize = 0;
-    while j < k {
-        out[n + j] = s[at + j];
-        j += 1;
+    if let [b] = bytes {
+        out[n] = *b;
+        return;
+    }
+    for k in 0..bytes.len() {
+        out[n + k] = bytes[k];
     }
 }
 
-// The same for a code point, whose first byte goes at once.
-pub(crate) fn copy(s: &[u8], at: usize, k: usize, out: &mut [u8; 1024], n: usize)
-    requires { (1 ≤ k) × (at + k ≤ length s.now) × (n + k ≤ 1024) × (length out.old ≡ 1024) }
-    ensures { out.new ≡ put out.old n (take k (drop at s.now)) }
+// The bytes at the front that are code points by themselves and not white go to the area, from n on; how many they are.
+pub(crate) fn put_dark(s: &[u8], out: &mut [u8; 1024], n: usize) -> usize
+    requires { (n + length s.now ≤ 1024) × (length out.old ≡ 1024) }
+    ensures { IsRun s.now out.old n result out.new }
 {
-    if k == 1 {
-        out[n] = s[at];
-        return;
+    for k in 0..s.len() {
+        let b = s[k];
+        if !is_dark_byte(b) {
+            return k;
+        }
+        out[n + k] = b;
     }
-    copy_all(s, at, k, out, n);
+    s.len()
 }

@@ -1,6 +1,6 @@
 // How a content is read before it is judged.
 
-#[derive(Clone, Copy)]
+#[derive(Clone, Copy, PartialEq, Eq, Debug)]
 pub enum Reading {
     AsItStands,
     Normalised,

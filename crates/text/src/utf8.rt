@@ -1,8 +1,7 @@
 // One step of decoding UTF-8.
-ghost use Rattle.std.specs.Prelude.{◌≡◌, ◌+◌, ◌<◌, length, get_or, drop};
+ghost use Rattle.std.specs.Prelude.{◌≡◌, ◌∷◌, ◌<◌, drop};
+ghost use Rattle.ascii.specs.Class.{within};
 ghost use Rattle.text.specs.Utf8.{step_of, two, three, four};
-
-use ascii::wide;
 
 // A code point, and how many bytes it takes.
 #[derive(Clone, Copy, PartialEq, Eq, Debug)]
@@ -11,156 +10,109 @@ pub struct Point {
     pub len: usize,
 }
 
-// A sequence of two bytes that begins at `at`.
-fn pair(s: &[u8], at: usize) -> Option<Point>
-    requires { at < length s.now }
-    ensures { result ≡ two (get_or s.now at 0) (drop (at + 1) s.now) }
+#[tactic(auto, unfolding(ascii::specs::Class::within))]
+fn within(low: u8, high: u8, b: u8) -> bool
+    ensures { result ≡ within low high b }
 {
-    if s.len() - at < 2 {
-        return None;
-    }
-    let b = s[at + 1];
-    if b < 0x80 {
-        return None;
-    }
-    if 0xbf < b {
-        return None;
-    }
-    Some(Point {
-        code: wide(s[at]) % 32 * 64 + wide(b) % 64,
-        len: 2,
-    })
+    (low <= b) & (b <= high)
 }
 
-// A sequence of three bytes that begins at `at`, whose second byte lies in low to high.
-fn triple(s: &[u8], at: usize, low: u8, high: u8) -> Option<Point>
-    requires { at < length s.now }
-    ensures { result ≡ three (get_or s.now at 0) low high (drop (at + 1) s.now) }
+// A byte that follows the first of a sequence.
+fn is_tail(b: u8) -> bool
+    ensures { result ≡ within 0x80 0xbf b }
 {
-    if s.len() - at < 3 {
-        return None;
-    }
-    let b = s[at + 1];
-    let c = s[at + 2];
-    if b < low {
-        return None;
-    }
-    if high < b {
-        return None;
-    }
-    if c < 0x80 {
-        return None;
-    }
-    if 0xbf < c {
-        return None;
-    }
-    Some(Point {
-        code: wide(s[at]) % 16 * 4096 + wide(b) % 64 * 64 + wide(c) % 64,
-        len: 3,
-    })
+    within(0x80, 0xbf, b)
 }
 
-// A sequence of four bytes that begins at `at`, whose second byte lies in low to high.
-fn quad(s: &[u8], at: usize, low: u8, high: u8) -> Option<Point>
-    requires { at < length s.now }
-    ensures { result ≡ four (get_or s.now at 0) low high (drop (at + 1) s.now) }
+// The sequences of two, three and four bytes, by the first and by what stands behind it; low to high is the range of the second. They go into `beyond`, so
+// that no result passes through memory on the way.
+#[tactic(auto, using(crate::proofs::Rows::two_good, crate::proofs::Rows::two_bad), unfolding(crate::specs::Utf8::two))]
+#[inline(always)]
+fn pair(a: u8, rest: &[u8]) -> Option<Point>
+    ensures { result ≡ two a rest.now }
 {
-    if s.len() - at < 4 {
-        return None;
+    match rest {
+        [b, ..] if is_tail(*b) => Some(Point {
+            code: u32::from(a) % 32 * 64 + u32::from(*b) % 64,
+            len: 2,
+        }),
+        _ => None,
     }
-    let b = s[at + 1];
-    let c = s[at + 2];
-    let d = s[at + 3];
-    if b < low {
-        return None;
-    }
-    if high < b {
-        return None;
-    }
-    if c < 0x80 {
-        return None;
-    }
-    if 0xbf < c {
-        return None;
-    }
-    if d < 0x80 {
-        return None;
-    }
-    if 0xbf < d {
-        return None;
-    }
-    Some(Point {
-        code: wide(s[at]) % 8 * 262144 + wide(b) % 64 * 4096 + wide(c) % 64 * 64 + wide(d) % 64,
-        len: 4,
-    })
 }
 
-// The rows of the table past the first, kept out of `decode` so that this one stays small.
-fn beyond(s: &[u8], at: usize) -> Option<Point>
-    requires { (at < length s.now) × (0x7f < get_or s.now at 0) }
-    ensures { result ≡ step_of (drop at s.now) }
+#[tactic(auto, using(crate::proofs::Rows::three_good, crate::proofs::Rows::three_bad), unfolding(crate::specs::Utf8::three))]
+#[inline(always)]
+fn triple(a: u8, low: u8, high: u8, rest: &[u8]) -> Option<Point>
+    ensures { result ≡ three a low high rest.now }
 {
-    let a = s[at];
-    if a < 0xc2 {
-        return None;
+    match rest {
+        [b, c, ..] if within(low, high, *b) & is_tail(*c) => Some(Point {
+            code: u32::from(a) % 16 * 4096 + u32::from(*b) % 64 * 64 + u32::from(*c) % 64,
+            len: 3,
+        }),
+        _ => None,
     }
-    if a <= 0xdf {
-        return pair(s, at);
-    }
-    if a == 0xe0 {
-        return triple(s, at, 0xa0, 0xbf);
-    }
-    if a <= 0xec {
-        return triple(s, at, 0x80, 0xbf);
-    }
-    if a == 0xed {
-        return triple(s, at, 0x80, 0x9f);
-    }
-    if a <= 0xef {
-        return triple(s, at, 0x80, 0xbf);
-    }
-    if a == 0xf0 {
-        return quad(s, at, 0x90, 0xbf);
-    }
-    if a <= 0xf3 {
-        return quad(s, at, 0x80, 0xbf);
-    }
-    if a == 0xf4 {
-        return quad(s, at, 0x80, 0x8f);
-    }
-    None
 }
 
-// The code point that begins at `at`, by the table of RFC 3629; none where the bytes there are not well-formed.
-pub fn decode(s: &[u8], at: usize) -> Option<Point>
-    ensures { result ≡ step_of (drop at s.now) }
+#[tactic(auto, using(crate::proofs::Rows::four_good, crate::proofs::Rows::four_bad), unfolding(crate::specs::Utf8::four))]
+#[inline(always)]
+fn quad(a: u8, low: u8, high: u8, rest: &[u8]) -> Option<Point>
+    ensures { result ≡ four a low high rest.now }
 {
-    if s.len() <= at {
-        return None;
+    match rest {
+        [b, c, d, ..] if within(low, high, *b) & is_tail(*c) & is_tail(*d) => Some(Point {
+            code: u32::from(a) % 8 * 262144
+                + u32::from(*b) % 64 * 4096
+                + u32::from(*c) % 64 * 64
+                + u32::from(*d) % 64,
+            len: 4,
+        }),
+        _ => None,
     }
-    let a = s[at];
-    if a <= 0x7f {
+}
+
+// The rows of the table past the first, kept out of `first_point` so that this one stays small enough to go into a loop.
+#[inline(never)]
+#[tactic(auto, using(crate::proofs::Rows::rows))]
+fn beyond(a: u8, rest: &[u8]) -> Option<Point>
+    requires { 0x7f < a }
+    ensures { result ≡ step_of (a ∷ rest.now) }
+{
+    match a {
+        0xc2..=0xdf => pair(a, rest),
+        0xe0 => triple(a, 0xa0, 0xbf, rest),
+        0xe1..=0xec => triple(a, 0x80, 0xbf, rest),
+        0xed => triple(a, 0x80, 0x9f, rest),
+        0xee..=0xef => triple(a, 0x80, 0xbf, rest),
+        0xf0 => quad(a, 0x90, 0xbf, rest),
+        0xf1..=0xf3 => quad(a, 0x80, 0xbf, rest),
+        0xf4 => quad(a, 0x80, 0x8f, rest),
+        _ => None,
+    }
+}
+
+// The code point that some bytes begin with, by the table of RFC 3629; none where they begin with nothing well-formed.
+#[inline]
+#[tactic(auto, using(crate::proofs::Rows::row_1), unfolding(crate::specs::Utf8::step_of))]
+pub(crate) fn first_point(s: &[u8]) -> Option<Point>
+    ensures { result ≡ step_of s.now }
+{
+    let [a, rest @ ..] = s else {
+        return None;
+    };
+    if *a <= 0x7f {
         return Some(Point {
-            code: wide(a),
+            code: u32::from(*a),
             len: 1,
         });
     }
-    beyond(s, at)
+    beyond(*a, rest)
 }
 
-// The same, with the first row at hand. `decode` is called in two places, so that this one stays small enough to go into a loop.
-pub(crate) fn next_point(s: &[u8], at: usize) -> Option<Point>
+// The code point that begins at `at`.
+#[tactic(auto, using(crate::proofs::Rows::past_end))]
+pub fn decode(s: &[u8], at: usize) -> Option<Point>
     ensures { result ≡ step_of (drop at s.now) }
 {
-    if at < s.len() {
-        let a = s[at];
-        if a <= 0x7f {
-            return Some(Point {
-                code: wide(a),
-                len: 1,
-            });
-        }
-        return decode(s, at);
-    }
-    decode(s, at)
+    first_point(s.get(at..)?)
 }

@@ -1,27 +1,23 @@
-use mathlib.Core.Path.{◌≡◌, refl, sym, ◌∙◌}
-use mathlib.Core.Bool.{Bool, ◌&&◌, and_assoc, and-true}
-use mathlib.Core.List.{List}
-use Prim.Native.Nat.{ℕ, ◌+◌, ◌≤◌, ◌<◌}
-use native.Mathlib.Omega.{arith}
-use lib.Dec.{leb}
-use lib.ListN.{length, get_or, drop}
+use mathlib.Core.Path.{◌≡◌, sym, ◌∙◌}
+use mathlib.Core.List.{List, [], ◌∷◌}
+use mathlib.Core.Bool.{Bool, true, ◌&&◌, and-true, and_assoc}
+use Prim.Native.Nat.{ℕ}
+use Rattle.std.specs.List.{fold}
+use Rattle.std.proofs.Common.{rules}
+use Rattle.std.proofs.lemmas.Iterator.{YieldsList-from_slice}
+use Rattle.std.proofs.lemmas.Iterator.Consumers.{fold_from_yields_List}
 use Rattle.ascii.specs.Class.{all}
-use Rattle.ascii.proofs.Class.{all_next, all_end}
 use Rattle.text.proofs.Points.{single}
 use Rattle.text.proofs.read.is_ascii.Goals as goal
 
-module _ (s : List ℕ) (ascii : Bool) (i : ℕ) (e : (ascii && all single (drop i s)) ≡ all single s) where
-  next : i < length s → ((ascii && leb (get_or s i 0) 0x7f) && all single (drop (i + 1) s)) ≡ all single s
-  next h = and_assoc ascii _ _ ∙ (rw (all_next single s i h) at e)
+abbrev step : Bool → ℕ → Bool
+step t b = t && single b
 
-  done : length s ≤ i → ascii ≡ all single s
-  done h = sym (and-true ascii) ∙ (rw (all_end single s i h) at e)
-
-pub loop-i-init : goal.loop-i-init
-loop-i-init c = (omega arith, refl)
-
-pub loop-i-preserved : goal.loop-i-preserved
-loop-i-preserved c = let d = c.loop-i in (omega arith, next _ d.ascii d.i d.invariant.1 (omega arith))
+folded : (t : Bool) (l : List ℕ) → fold step t l ≡ t && all single l
+unfolding all
+folded t [] = sym (and-true t)
+folded t (b ∷ l) = folded (step t b) l ∙ and_assoc t (single b) (all single l)
 
 pub returns : goal.returns
-returns c = let d = c.loop-i in done _ d.ascii d.i d.invariant.1 (omega arith)
+returns c =
+    fold_from_yields_List _ step _ _ c.fold.ensures.ran (YieldsList-from_slice c.args.s.now cc) (λ a x b q k. search rules) ∙ folded true c.args.s.now
