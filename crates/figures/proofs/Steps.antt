@@ -2,13 +2,15 @@
 use mathlib.Core.Path.{◌≡◌, refl, sym, ap, ◌∙◌}
 use mathlib.Core.Bool.{Bool, true}
 use mathlib.Core.List.{List, [], ◌∷◌, ◌++◌, append_assoc}
-use Prim.Native.Nat.{ℕ, suc, ◌+◌, ◌-◌, ◌*◌, ◌%◌, ◌≤◌, ◌<◌}
+use Prim.Native.Nat.{ℕ, zero, suc, ◌+◌, ◌-◌, ◌*◌, ◌/◌, ◌%◌, ◌≤◌, ◌<◌}
 use native.Mathlib.Nat.{mod-eq_of_lt, mul-le-mul_left}
 use native.Mathlib.Numerals.{add-one}
 use native.Mathlib.Omega.{arith}
 use lib.ListN.{length, get_or, drop, length-drop, drop_of_length-le}
 use lib.Seq.{drop-cons, drop_at}
 use Rattle.std.specs.List.{push}
+use Rattle.std.proofs.Common.{get_or-drop}
+use Rattle.std.specs.Simd.{first_chunks}
 use Rattle.std.proofs.lemmas.List.{length_push}
 use Rattle.ascii.specs.Class.{is_digit, all}
 use Rattle.ascii.proofs.Class.{all_first, all_drop}
@@ -96,3 +98,25 @@ module _ (ws v : List ℕ) (k w : ℕ) (e : drop k ws ≡ w ∷ v) where
 
   pub other_weights : v ≡ drop (k + 1) ws
   other_weights = let z : suc k ≡ k + 1 = omega arith in rw z at (sym (ap (drop 1) parts))
+
+-- the digits of a pair
+pub pair_at : (k : ℕ) (s : List ℕ) (i : ℕ) → i < k → 2 * k ≤ length s
+    → (get_or (get_or (first_chunks 2 k s) i []) 0 0 ≡ get_or s (2 * i) 0) × (get_or (get_or (first_chunks 2 k s) i []) 1 0 ≡ get_or s (2 * i + 1) 0)
+pair_at zero s i l h = absurd (omega arith)
+pair_at (suc k) [] i l h = absurd (omega arith)
+pair_at (suc k) (a ∷ []) i l h = absurd (omega arith)
+pair_at (suc k) (a ∷ b ∷ s) zero l h = (refl, refl)
+pair_at (suc k) (a ∷ b ∷ s) (suc i) l h =
+    let p = pair_at k s i (omega arith) (omega arith) in
+    let e : 2 * suc i ≡ suc (suc (2 * i)) = omega arith in
+    let g : 2 * i + 1 ≡ suc (2 * i) = omega arith in
+    let d : suc (suc (2 * i)) + 1 ≡ suc (suc (suc (2 * i))) = omega arith in
+    (p.0 ∙ ap (λ j. get_or (a ∷ b ∷ s) j 0) (sym e), p.1 ∙ ap (λ j. get_or s j 0) g ∙ ap (λ j. get_or (a ∷ b ∷ s) j 0) (sym d ∙ ap (λ j. j + 1) (sym e)))
+
+-- where the first digit of an odd number stands by itself
+pub pair_of : (s : List ℕ) (ps : List (List ℕ)) (i : ℕ) → ps ≡ first_chunks 2 (length s / 2) (drop (length s % 2) s) → i < length s / 2
+    → (get_or (get_or ps i []) 0 0 ≡ get_or s (length s % 2 + 2 * i) 0) × (get_or (get_or ps i []) 1 0 ≡ get_or s (length s % 2 + 2 * i + 1) 0)
+pair_of s ps i e l =
+    let p = pair_at (length s / 2) (drop (length s % 2) s) i l (omega (arith, length-drop (length s % 2) s)) in
+    let z : length s % 2 + (2 * i + 1) ≡ length s % 2 + 2 * i + 1 = omega arith in
+    rw e (p.0 ∙ get_or-drop (length s % 2) s (2 * i) 0, p.1 ∙ get_or-drop (length s % 2) s (2 * i + 1) 0 ∙ ap (λ j. get_or s j 0) z)

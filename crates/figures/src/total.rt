@@ -54,13 +54,10 @@ pub(crate) fn alternating(s: &[u8], last: u32, before: u32, fold: bool) -> u32
     requires before_small { before ≤ 3 }
     ensures { result ≡ total (adds fold (last ∷ before ∷ [])) s.now }
 {
-    let n = s.len();
+    let (_, pairs) = s.as_rchunks::<2>();
     let mut sum = lead(s, last, before, fold);
-    let mut i = n % 2;
-    while i < n {
-        let next = i + 1;
-        sum += part(before, s[i], fold) + part(last, s[next], fold);
-        i += 2;
+    for [a, b] in pairs {
+        sum += part(before, *a, fold) + part(last, *b, fold);
     }
     sum
 }
