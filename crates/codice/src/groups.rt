@@ -1,5 +1,5 @@
 // The groups of a codice fiscale.
-ghost use Rattle.std.specs.Prelude.{◌≡◌, Ok, Err, length};
+ghost use Rattle.std.specs.Prelude.{◌≡◌, Ok, Err};
 ghost use Rattle.ascii.specs.Pick.{pick};
 ghost use Rattle.ascii.specs.Class.{is_letter, all};
 ghost use Rattle.forms.specs.declared.form.Fault.TheVariants.{At};
@@ -27,8 +27,7 @@ fn passes(good: bool, at: usize) -> Result<(), Fault>
 }
 
 // The groups of 16 code points, one after another.
-fn failing_group(p: &[u32], places: &[usize]) -> Result<(), Fault>
-    requires { (length p.now ≡ 16) × (length places.now ≡ 16) }
+fn failing_group(p: &[u32; 16], places: &[usize; 16]) -> Result<(), Fault>
     ensures { Answered groups_of16 p.now places.now result }
 {
     passes(all_letters(&p[0..6]), places[0])?;

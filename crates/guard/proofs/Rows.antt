@@ -1,8 +1,8 @@
 -- The rows of the withdrawn codes, as the code goes through them. Assumes nothing.
-use mathlib.Core.Path.{◌≡◌, refl, ap}
+use mathlib.Core.Path.{◌≡◌, refl}
 use mathlib.Core.Bool.{Bool, true, false, ◌&&◌}
 use mathlib.Core.List.{List, [], ◌∷◌, map}
-use Prim.Native.Nat.{ℕ, zero, suc, ◌+◌, ◌≤◌, ◌<◌}
+use Prim.Native.Nat.{ℕ, ◌+◌, ◌≤◌, ◌<◌}
 use native.Mathlib.Numerals.{add-one}
 use borrow.Author.Tests.{eqb-true}
 use lib.Dec.{eqb}
@@ -13,7 +13,6 @@ use Rattle.ascii.specs.Pick.{pick}
 use Rattle.ascii.specs.Written.{same_bytes}
 use Rattle.ascii.proofs.Tests.{and_true}
 use Rattle.ascii.proofs.Same.{same_length}
-use Rattle.guard.specs.declared.code.Withdrawal.{Withdrawal}
 use Rattle.guard.specs.Codes.{Row, rows, withdrawn_in, withdrawn_of}
 
 -- a row as the code has it

@@ -1,4 +1,4 @@
-// Withdrawal codes of the EAS list, and what is used in their place.
+// Withdrawn codes of the EAS list, and what is used in their place.
 ghost use Rattle.std.specs.Prelude.{◌≡◌};
 ghost use Rattle.guard.specs.Codes.{withdrawn_of};
 
