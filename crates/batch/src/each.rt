@@ -29,7 +29,7 @@ fn put_numbers(a: Answer, out: &mut [u32], at: usize) -> usize
     end
 }
 
-// Answers the lines of s, one after the other, as long as out has room for an answer.
+// Answers the lines of s, one after the other, as long as out has room for an answer. Either may end first: a for over one counts the other by hand.
 pub(crate) fn answer_each<F: FnMut(&[u8]) -> Answer>(
     s: &[u8],
     out: &mut [u32],
