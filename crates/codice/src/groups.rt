@@ -39,6 +39,7 @@ fn failing_group(p: &[u32; 16], places: &[usize; 16]) -> Result<(), Fault>
 }
 
 // What is wrong with a text by rules 45 and 46.
+#[tactic(auto, using(crate::proofs::Walk::eleven, crate::proofs::Walk::another))]
 pub fn codice_fiscale(text: &[u8]) -> Result<(), Fault>
     ensures { result ≡ codice_fault text.now }
 {

@@ -5,6 +5,7 @@ use text::decode;
 
 // Puts the numbers and the places of a text's code points into two areas, and tells how many it has, where it is well-formed and has at
 // most 16. An integer text is read from the numbers alone (`castable_integer`), so the places stand apart.
+#[tactic(auto, using(crate::proofs::Walk::begin, crate::proofs::Walk::finish, crate::proofs::Walk::turn))]
 pub(crate) fn take_points(
     s: &[u8],
     codes: &mut [u32; 16],
