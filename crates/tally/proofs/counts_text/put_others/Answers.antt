@@ -4,11 +4,11 @@ use Rattle.tally.proofs.Texts.{count_fits, room_behind, put_two}
 use Rattle.tally.proofs.counts_text.put_others.Goals as goal
 
 pub put_field-k-requires : goal.put_field-k-requires
-put_field-k-requires c = count_fits _ 32 _ _ (omega (arith, c.type_inv.others 0)) (omega arith)
+put_field-k-requires c = count_fits _ _ _ _ (omega (arith, c.type_inv.others 0)) (omega arith)
 
 pub put_field-requires : goal.put_field-requires
 put_field-requires c =
-    count_fits _ 10 _ _ (omega (arith, c.type_inv.others 1)) (room_behind _ 32 (omega (arith, c.type_inv.others 0)) c.put_field-k.ensures 11 (omega arith))
+    count_fits _ _ _ _ (omega (arith, c.type_inv.others 1)) (room_behind _ _ (omega (arith, c.type_inv.others 0)) c.put_field-k.ensures 11 (omega arith))
 
 pub returns : goal.returns
 returns c =
