@@ -37,6 +37,7 @@ fn step(acc: u64, b: u8) -> u64
 }
 
 // A number that leaves what the digits of `start`, followed by those of the text, leave.
+#[tactic(auto, using(ascii::proofs::Class::all_at, crate::proofs::Remainder::spell_step, crate::proofs::Remainder::spell_end))]
 fn leave(start: u64, text: &[u8]) -> u64
     requires { all is_plain text.now ≡ true }
     ensures { result % 97 ≡ after start (spell text.now) }
@@ -49,6 +50,7 @@ fn leave(start: u64, text: &[u8]) -> u64
 }
 
 // What the text's number leaves, where the part that is read first begins at `from`.
+#[tactic(auto, using(crate::proofs::Remainder::leaves, ascii::proofs::Class::all_take, ascii::proofs::Class::all_drop))]
 pub(crate) fn remainder(text: &[u8], from: usize) -> u64
     requires { (4 ≤ from) × (from ≤ length text.now) × (all is_plain text.now ≡ true) }
     ensures { result ≡ remainder from text.now }
