@@ -29,7 +29,7 @@ pub enum Rule {
 
 // What is fixed about a rule: its place in the order of rules, from 0, its published number, its severity, the scheme that it goes by, or
 // none where it goes by the term alone, and how it reads a content.
-#[derive(Clone, Copy)]
+#[derive(Clone, Copy, PartialEq, Eq, Debug)]
 pub struct Fixed {
     pub index: usize,
     pub number: u32,
