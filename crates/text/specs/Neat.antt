@@ -1,5 +1,5 @@
 -- The words in which the laws of the normalised and the stripped text are said.
-use Rattle.std.specs.Prelude.{◌≡◌, ℕ, suc, ◌<◌, List, [], ◌∷◌, ◌++◌, true, false, length, get_or}
+use Rattle.std.specs.Prelude.{◌≡◌, ℕ, suc, ◌<◌, List, [], ◌∷◌, ◌++◌, true, false, length, slice_index}
 use Rattle.text.specs.White.{is_white}
 use Rattle.text.specs.Content.{Piece}
 
@@ -19,13 +19,13 @@ Dark p = is_white p.code ≡ false
 
 -- at i stands a space, and the points before and behind it are there and are not white
 pub record Lone (cs : List ℕ) (i : ℕ) : Type 0 where
-  pub space : get_or cs i 0 ≡ 0x20
+  pub space : slice_index cs i ≡ 0x20
   pub prior : ℕ
   pub first : i ≡ suc prior
-  pub left : is_white (get_or cs prior 0) ≡ false
+  pub left : is_white (slice_index cs prior) ≡ false
   pub inner : suc i < length cs
-  pub right : is_white (get_or cs (suc i) 0) ≡ false
+  pub right : is_white (slice_index cs (suc i)) ≡ false
 
 -- so each white point: none stands at an end, no two stand together, and each is a space
 abbrev pub Neat : List ℕ → Type 0
-Neat cs = (i : ℕ) → i < length cs → is_white (get_or cs i 0) ≡ true → Lone cs i
+Neat cs = (i : ℕ) → i < length cs → is_white (slice_index cs i) ≡ true → Lone cs i

@@ -8,6 +8,7 @@ use super::white::is_dark_byte;
 use answer::Reason;
 
 // A text in its working area: its length, its bytes, and zeros after them; or why it is refused, and zeros alone.
+// The area has one size, since the library has no heap.
 #[derive(Drop)]
 pub struct Text {
     pub kept: Result<usize, Reason>,
@@ -21,6 +22,7 @@ pub fn first_bytes(area: &[u8], n: usize) -> &[u8]
     area.get(..n).unwrap_or(area)
 }
 
+#[tactic(auto, unfolding(crate::specs::Answer::refusal, crate::specs::Answer::padded))]
 pub(crate) fn refuse(reason: Reason, out: &mut [u8; 1024]) -> Result<usize, Reason>
     ensures { text_in result out.new ≡ refusal reason }
 {
