@@ -160,15 +160,6 @@ pub sum_same : (y : Result ⊤ Fault) {n m : ℕ} → (y ≡ Ok tt → n ≡ m) 
 sum_same (Ok tt) h = ap (λ (k : ℕ). Ok k) (h refl)
 sum_same (Err fault) h = refl
 
--- a length that is out of range, whatever the places are
-pub sum_out : (fold : Bool) (places : List ℕ) (f : Form) (after : ℕ) (s : List ℕ) → fault_of f s ≡ Err Length → Err Length ≡ summed_by fold places f after s
-unfolding summed_by pick
-sum_out fold places f after s h = rw h (go (leb (length s + after) (length places)))
-  where
-    go : (t : Bool) → ◌≡◌ {A = Result ℕ Fault} (Err Length) (pick t (Err Length) (Err Length))
-    go true = refl
-    go false = refl
-
 -- more digits than places
 pub sum_over : (fold : Bool) (places : List ℕ) (f : Form) (after : ℕ) (s : List ℕ) → length places < length s + after → Err Length ≡ summed_by fold places f after s
 unfolding summed_by pick

@@ -1,10 +1,9 @@
 -- What the code finds its answers from. No rule cites this; that it says what the rules say is proved.
 use Rattle.std.specs.Prelude.{Bool, false, not, ◌&&◌, Result, Ok, Err, ⊤, List, [], ◌∷◌, ◌++◌, ℕ, zero, suc, ◌+◌, ◌*◌, ◌/◌, ◌%◌, ◌==◌, nat_le, length, get_or}
-use Prim.Native.Char.{code}
 use Rattle.ascii.specs.Pick.{pick}
 use Rattle.answer.specs.declared.reason.Reason.{Reason}
 use Rattle.answer.specs.declared.reason.Reason.TheVariants.{Zero, NoFigure}
-use Rattle.forms.specs.Form.{Form, class_at, wrong, fault_of}
+use Rattle.forms.specs.Form.{Form, fault_of}
 use Rattle.forms.specs.declared.form.Fault.{Fault}
 use Rattle.forms.specs.declared.form.Fault.TheVariants.{Length}
 use Rattle.figures.specs.Total.{total}
@@ -66,10 +65,6 @@ figure_for Mod89 t = Ok (lacking Mod89 t)
 -- what the digit d adds by the weights of the places, with k digits and `after` more to come to its right
 abbrev pub adds_from : ℕ → Bool → List ℕ → ℕ → ℕ → ℕ
 adds_from after fold places k d = counted fold (get_or places (k + after) 0 * d)
-
--- the first place that has no digit; Ok where each has one
-abbrev pub no_digit : List ℕ → Result ⊤ Fault
-no_digit s = wrong (class_at [] (code "#")) 0 s
 
 -- a total, where nothing is wrong with the form
 abbrev pub summed : Result ⊤ Fault → ℕ → Result ℕ Fault

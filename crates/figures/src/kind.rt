@@ -4,7 +4,7 @@ ghost use mir.Val.{bool_byte};
 ghost use Rattle.forms.specs.Table.{digits};
 ghost use Rattle.figures.specs.Total.{total};
 ghost use Rattle.figures.specs.Figures.{weight_at, counted, belgian_pair};
-ghost use Rattle.figures.specs.Inner.{figure_by, weight_by, placed, adds_from, no_digit, summed, summed_by, total_passes, figure_for};
+ghost use Rattle.figures.specs.Inner.{figure_by, weight_by, placed, adds_from, summed_by, total_passes, figure_for};
 
 use super::total::{counted, weighted};
 use answer::Reason;

@@ -33,6 +33,8 @@ fn part(w: u32, b: u8, fold: bool) -> u32
     p
 }
 
+// That a text is of digits stays a clause: a type of digits would need ways to take its parts, the first eight or all but the first.
+//
 // What the first digit adds where the number of digits is odd.
 fn lead(s: &[u8], last: u32, before: u32, fold: bool) -> u32
     requires digits { all is_digit s.now ≡ true }
@@ -86,6 +88,7 @@ pub(crate) fn abn_total(s: &[u8]) -> i64
     let weights = MOD89;
     let rest = weighted(&s[1..11], &weights, false);
     let digit = s[0] - 48;
+    // `as` in all three: no From takes a u64 to an i64
     let first = (digit as i64) - 1;
     (weights[10] as i64) * first + (rest as i64)
 }

@@ -2,19 +2,17 @@
 use mathlib.Core.Path.{◌≡◌, refl}
 use mathlib.Core.Bool.{Bool, true, false}
 use mathlib.Core.List.{List, [], ◌∷◌}
-use Prim.Native.Nat.{ℕ, zero, suc, ◌+◌, ◌≤◌, ◌<◌}
+use Prim.Native.Nat.{ℕ, zero, suc, ◌≤◌, ◌<◌}
 use native.Mathlib.Nat.{not-suc-le-zero, le_of_suc-le-suc}
-use native.Mathlib.Numerals.{add-one}
 use borrow.Author.Tests.{ne_eqb}
-use lib.ListN.{length, get_or, drop, drop_of_length-le}
-use lib.Seq.{drop-cons}
+use lib.ListN.{length, get_or}
 use lib.Dec.{eqb}
 use Rattle.ascii.specs.Pick.{pick}
 use Rattle.ascii.specs.Class.{within, is_digit, is_letter, is_plain}
 use Rattle.ascii.proofs.Class.{inside, below, above}
-use Rattle.std.specs.Prelude.{Result, Ok, Err, ⊤}
+use Rattle.std.specs.Prelude.{Result, Err, ⊤}
 use Rattle.forms.specs.declared.form.Fault.{Fault}
-use Rattle.forms.specs.declared.form.Fault.TheVariants.{Length, At}
+use Rattle.forms.specs.declared.form.Fault.TheVariants.{Length}
 use Rattle.forms.specs.Form.{Form, of_class, class_at, wrong, fault_of}
 use Rattle.forms.specs.Table.{italian_of}
 
@@ -40,19 +38,6 @@ pub get_d_any : (l : List ℕ) (i d e : ℕ) → i < length l → get_or l i d �
 get_d_any [] i d e h = absurd (not-suc-le-zero h)
 get_d_any (a ∷ l) zero d e h = refl
 get_d_any (a ∷ l) (suc i) d e h = get_d_any l i d e (le_of_suc-le-suc h)
-
-module _ (f : ℕ → ℕ) (s : List ℕ) (i : ℕ) where
-  pub wrong_more : i < length s → of_class (f i) (get_or s i 0) ≡ true → wrong f i (drop i s) ≡ wrong f (i + 1) (drop (i + 1) s)
-  unfolding wrong pick
-  wrong_more h t = rw (add-one i, drop-cons s i 0 h, t) refl
-
-  pub wrong_here : i < length s → of_class (f i) (get_or s i 0) ≡ false → wrong f i (drop i s) ≡ Err (At i)
-  unfolding wrong pick
-  wrong_here h t = rw (drop-cons s i 0 h, t) refl
-
-  pub wrong_end : length s ≤ i → wrong f i (drop i s) ≡ Ok tt
-  unfolding wrong
-  wrong_end h = rw (drop_of_length-le s h) refl
 
 -- the length first, and then the bytes
 module _ (f : Form) (s : List ℕ) where

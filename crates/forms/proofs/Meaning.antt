@@ -19,6 +19,7 @@ use Rattle.forms.specs.declared.form.Fault.TheVariants.{Length, At}
 use Rattle.forms.specs.Form.{Form, of_class, class_at, wrong, fault_of, fits}
 use Rattle.forms.specs.Meaning.{Fitting, First}
 use Rattle.forms.proofs.Laws.{fault_inside}
+use Rattle.forms.proofs.First.{none_wrong}
 
 -- ---- `Ok` is what `fits` tests
 
@@ -66,14 +67,6 @@ module _ (g : ℕ → ℕ) where
   right_all k (b ∷ s) h (suc i) l =
       let e : k + suc i ≡ suc k + i = omega arith in
       rw e (right_all (suc k) s (picked (of_class (g k) b) h (not_at k)).1 i (le_of_suc-le-suc l))
-
-  all_right : (k : ℕ) (s : List ℕ) → ((i : ℕ) → i < length s → of_class (g (k + i)) (get_or s i 0) ≡ true) → wrong g k s ≡ Ok tt
-  unfolding wrong pick
-  all_right k [] h = refl
-  all_right k (b ∷ s) h =
-      let e : k + 0 ≡ k = omega arith in
-      let t : of_class (g k) b ≡ true = rw e at (h 0 (omega arith)) in
-      rw t (all_right (suc k) s (λ i l. let e : k + suc i ≡ suc k + i = omega arith in rw e at (h (suc i) (omega arith))))
 
   no_length : (k : ℕ) (s : List ℕ) → wrong g k s ≡ Err Length → ⊥
   unfolding wrong
@@ -125,7 +118,7 @@ fits_means f s h =
 pub means_fits : (f : Form) (s : List ℕ) → Fitting f s → fault_of f s ≡ Ok tt
 means_fits f s h =
     fault_inside f s h.least h.most
-    ∙ all_right (class_at f.head f.rest) 0 s (λ k l. let e : 0 + k ≡ k = omega arith in rw e (h.each k l))
+    ∙ none_wrong (class_at f.head f.rest) 0 s (λ k l. let e : 0 + k ≡ k = omega arith in rw e (h.each k l))
 
 -- `Length` says that the length is out of range, and that says `Length`
 pub length_means : (f : Form) (s : List ℕ) → fault_of f s ≡ Err Length → within f.least f.most (length s) ≡ false

@@ -14,6 +14,8 @@ pub const SWEDISH: usize = 10;
 
 pub const AUSTRALIAN: usize = 11;
 
+// Each row is one call. As constants of a struct with a method, rows would take six lines each, and twice the time where the method isn't inlined.
+//
 // Only digits, least to most of them.
 pub fn digits(text: &[u8], least: usize, most: usize) -> Result<(), Fault>
     ensures { result ≡ fault_of (named.digits least most) text.now }
