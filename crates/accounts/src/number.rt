@@ -18,10 +18,11 @@ fn value(b: u8) -> u64
     requires { is_plain b ≡ true }
     ensures { (result ≡ value_of b) × (result < 36) }
 {
+    let w = u64::from(b);
     match b {
-        ..=b'9' => u64::from(b - b'0'),
-        ..=b'Z' => u64::from(b - b'A') + 10,
-        _ => u64::from(b - b'a') + 10,
+        ..=b'9' => w - 48,
+        ..=b'Z' => w - 55,
+        _ => w - 87,
     }
 }
 
