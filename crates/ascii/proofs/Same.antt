@@ -3,9 +3,10 @@ use mathlib.Core.Path.{◌≡◌, refl, ap}
 use mathlib.Core.Bool.{true, false}
 use mathlib.Core.List.{List, [], ◌∷◌}
 use Prim.Native.Nat.{ℕ}
+use native.Mathlib.Omega.{arith}
 use borrow.Author.Tests.{eqb-true}
 use lib.Dec.{eqb}
-use lib.ListN.{length}
+use lib.ListN.{length, get_or}
 use Rattle.ascii.specs.Written.{same_bytes}
 use Rattle.ascii.proofs.Tests.{and_true, not_true, false_true}
 
@@ -21,3 +22,12 @@ bytes_eq (a ∷ s) (b ∷ t) e =
 
 pub same_length : (s t : List ℕ) → (length s ≡ length t → ⊥) → same_bytes s t ≡ false
 same_length s t h = not_true (same_bytes s t) (λ e. h (ap length (bytes_eq s t e)))
+
+-- four bytes, one by one
+pub four : (s : List ℕ) → length s ≡ 4 → s ≡ get_or s 0 0 ∷ get_or s 1 0 ∷ get_or s 2 0 ∷ get_or s 3 0 ∷ []
+four [] n = absurd (omega arith)
+four (a ∷ []) n = absurd (omega arith)
+four (a ∷ b ∷ []) n = absurd (omega arith)
+four (a ∷ b ∷ c ∷ []) n = absurd (omega arith)
+four (a ∷ b ∷ c ∷ d ∷ []) n = refl
+four (a ∷ b ∷ c ∷ d ∷ e ∷ s) n = absurd (omega arith)

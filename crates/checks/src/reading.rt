@@ -9,6 +9,7 @@ use figures::{Finding, Problem};
 use text::Reading;
 
 #[tactic(auto, unfolding(crate::specs::Reading::found_in))]
+#[inline(always)]
 fn as_it_stands<J: Judge + Copy>(judge: J, content: &[u8]) -> Finding
     ensures { result ≡ found_in AsItStands (J.finds judge) content.now }
 {
@@ -33,6 +34,7 @@ fn stripped<J: Judge + Copy>(judge: J, content: &[u8]) -> Finding
     judge.finding(text::first_bytes(&area, n))
 }
 
+#[inline(always)]
 fn found_in<J: Judge + Copy>(how: Reading, judge: J, content: &[u8]) -> Finding
     ensures { result ≡ found_in how (J.finds judge) content.now }
 {
@@ -43,7 +45,9 @@ fn found_in<J: Judge + Copy>(how: Reading, judge: J, content: &[u8]) -> Finding
     }
 }
 
-// The one way: how a content is read, who judges its text, and the number and the severity that the answer carries.
+// The one way: how a content is read, who judges its text, and the number and the severity that the answer carries. Inlined as far as the
+// readers, so that a caller holds its own way of reading alone.
+#[inline(always)]
 pub fn answer_by<J: Judge + Copy>(
     how: Reading,
     judge: J,
