@@ -1,4 +1,4 @@
--- The turns of a loop that adds up digits from the left, for any weights. Assumes nothing.
+-- The turns of loops that add up digits, by pairs from the left or from the right, for any weights. Assumes nothing.
 use mathlib.Core.Path.{◌≡◌, refl, sym, ap, ◌∙◌}
 use mathlib.Core.Bool.{Bool, true}
 use mathlib.Core.List.{List, [], ◌∷◌, ◌++◌, append_assoc}

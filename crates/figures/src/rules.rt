@@ -4,7 +4,7 @@ ghost use Rattle.figures.specs.Rules.{gln, mod11, mod97, partita_iva, se_orgnr, 
 
 use super::finding::{Finding, Problem, decided};
 use super::kind::{
-    ABN_MODULUS, ELEVEN, GLN_BEFORE, LAST, LUHN_BEFORE, MOD11, MOD97, TEN, belgian_pair,
+    ABN_MODULUS, ELEVEN, GLN_BEFORE, Kind, LAST, LUHN_BEFORE, MOD11, MOD97, TEN, passes,
 };
 use super::total::{abn_total, alternating, weighted};
 use forms::{AUSTRALIAN, BELGIAN, NORWEGIAN, SWEDISH, all_digits, italian, n_digits};
@@ -44,9 +44,7 @@ pub fn mod97_0208(s: &[u8]) -> Finding
 {
     n_digits(s, BELGIAN)?;
     let powers = MOD97;
-    let body = weighted(&s[0..8], &powers, false);
-    let check = weighted(&s[8..10], &powers, false);
-    decided(check == belgian_pair(body))
+    decided(passes(Kind::Mod97, weighted(s, &powers, false)))
 }
 
 // The text with IT or it in front.
