@@ -18,7 +18,7 @@ verdict_few Accepted = omega arith
 verdict_few Refused = omega arith
 verdict_few Unread = omega arith
 
-other_small : (v : Verdict) → other_cell v < tally_size
+pub other_small : (v : Verdict) → other_cell v < tally_size
 unfolding pick
 other_small NoRule = omega arith
 other_small Accepted = omega arith

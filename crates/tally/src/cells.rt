@@ -43,14 +43,14 @@ fn first_cell(number: u32) -> usize
     }
 }
 
+#[tactic(auto, using(crate::proofs::Places::verdict_few, crate::proofs::Places::other_small, crate::proofs::Places::other_cell_lem, crate::proofs::Places::by_rule, crate::proofs::Places::rule_cell))]
 pub(crate) fn cell(a: Answer) -> usize
     requires { Proper a }
     ensures told { result ≡ cell_of a }
     ensures below { result < tally_size }
 {
-    let verdict = a.verdict;
     if a.rule == 0 {
-        return other_cell(verdict);
+        return other_cell(a.verdict);
     }
-    first_cell(a.rule) + (u32::from(verdict) as usize) - 1
+    first_cell(a.rule) + (u32::from(a.verdict) as usize) - 1
 }

@@ -30,8 +30,8 @@ fn total(counts: &[u32]) -> u64
     counts.iter().map(|count| u64::from(*count)).sum()
 }
 
-#[tactic(auto, unfolding(crate::specs::Inner::left_in))]
 // How many more lines are counted. That there are 53 counts, which their type says, is told to loops that cite it.
+#[tactic(auto, unfolding(crate::specs::Inner::left_in))]
 pub fn left(counts: &[u32; 53]) -> u32
     ensures exact { result ≡ left_in counts.now }
     ensures size { length counts.now ≡ tally_size }
@@ -60,8 +60,8 @@ fn raise(counts: &mut [u32], cell: usize)
     counts[cell] = counts[cell].wrapping_add(1);
 }
 
-#[tactic(auto, using(crate::proofs::Answers::line_proper), unfolding(crate::specs::Inner::fed_if, ascii::specs::Pick::pick))]
 // Feeds a line to a tally of which the caller knows whether it is full: a loop over lines need not add up the counts for each.
+#[tactic(auto, using(crate::proofs::Answers::line_proper), unfolding(crate::specs::Inner::fed_if, ascii::specs::Pick::pick))]
 pub fn count(counts: &mut [u32; 53], full: bool, line: &[u8]) -> Answer
     ensures { fed_in result counts.new ≡ fed_if full counts.old line.now }
 {
@@ -73,8 +73,8 @@ pub fn count(counts: &mut [u32; 53], full: bool, line: &[u8]) -> Answer
     a
 }
 
-#[tactic(auto, using(crate::proofs::Feeding::fed_by_left))]
 // Feeds a line, its newline left out, to a tally that the caller lends.
+#[tactic(auto, using(crate::proofs::Feeding::fed_by_left))]
 pub fn feed_line(counts: &mut [u32; 53], line: &[u8]) -> Answer
     ensures { fed_in result counts.new ≡ fed counts.old line.now }
 {
