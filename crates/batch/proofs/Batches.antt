@@ -9,7 +9,7 @@ use Rattle.answer.specs.declared.record.Answer.{Answer}
 use Rattle.answer.specs.Answers.{answer_numbers, in_turn}
 use Rattle.lines.specs.Line.{answer_of}
 use Rattle.lines.specs.Lines.{lines_of, answers_to}
-use Rattle.lines.proofs.Feeding.{First, Through, through_none, through_line, through_within, through_ended, Said, said_none, said_more, said_size, none_left, end_left}
+use Rattle.lines.proofs.Feeding.{First, Through, through_none, through_line, through_ended, Said, said_none, said_more, said_size, none_left, end_left}
 use Rattle.tally.specs.Tally.{replies}
 use Rattle.tally.specs.Inner.{fed_if, fed_in}
 use Rattle.tally.proofs.Running.{Running, running_reply, running_line}
@@ -59,14 +59,8 @@ module _ {F : Type 0} {called : F → List ℕ → Answer → F → Type 0} {f f
   in_room : numbers_each * length b.answers ≤ length o
   in_room = omega (arith, b.each, b.through.number)
 
-  pub batching_size : length new ≡ length o
+  batching_size : length new ≡ length o
   batching_size = said_size answer_numbers numbers_each b.answers in_room b.said
-
-  pub batching_fits : put ≤ length new
-  batching_fits = omega (arith, put_exact, in_room, b.each, batching_size)
-
-  pub batching_within : used ≤ length s
-  batching_within = through_within true (length o / numbers_each) s used b.left b.done b.through
 
   pub batching_line : (l : List ℕ) (m : ℕ) (a : Answer) (f'' : F) {put' : ℕ} {new' : List ℕ} → First true (drop used s) l m → numbers_each ≤ length new - put
       → called f' l a f'' → Put numbers_each new put (answer_numbers a) put' new' → Batching called f f'' s o new' (used + m) put'

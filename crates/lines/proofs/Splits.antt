@@ -8,6 +8,7 @@ use native.Mathlib.Omega.{arith}
 use lib.Dec.{eqb}
 use lib.ListN.{length, take, drop}
 use Rattle.std.proofs.Common.{Option, None, Some, unwrap_or}
+use Rattle.std.proofs.lemmas.Bool.{false_from_ne_true}
 use Rattle.std.proofs.lemmas.List.Sums.{position_or_len_is, prefix_len-le-length}
 use Rattle.memchr.specs.Find.{IsFirstByte, is_byte}
 use Rattle.ascii.specs.Pick.{pick}
@@ -71,16 +72,12 @@ front_first c b l ls = refl
 -- ---- the first newline
 
 -- what a search for it finds
-unseen : (b : Bool) → (b ≡ true → ⊥) → b ≡ false
-unseen true n = absurd (n refl)
-unseen false n = refl
-
 pub upto_found : (s : List ℕ) (r : Option ℕ) → IsFirstByte (is_byte newline) s r → unwrap_or r (length s) ≡ upto s
 unfolding upto
 upto_found s None f =
-    sym (position_or_len_is (is_byte newline) s (length s) 0 (omega arith) (λ k h. unseen _ (f k (omega arith) h)) (λ h. absurd (omega arith)))
+    sym (position_or_len_is (is_byte newline) s (length s) 0 (omega arith) (λ k h. false_from_ne_true _ (f k (omega arith) h)) (λ h. absurd (omega arith)))
 upto_found s (Some n) f =
-    sym (position_or_len_is (is_byte newline) s n 0 (omega arith) (λ k h. unseen _ (f.0.before k (omega arith) h)) (λ h. f.1))
+    sym (position_or_len_is (is_byte newline) s n 0 (omega arith) (λ k h. false_from_ne_true _ (f.0.before k (omega arith) h)) (λ h. f.1))
 
 pub upto_le : (s : List ℕ) → upto s ≤ length s
 unfolding upto
