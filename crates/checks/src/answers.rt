@@ -5,7 +5,6 @@ ghost use Rattle.checks.specs.Check.{answer_by, check_of, iban_answer, creditor_
 use super::judge::{Creditor, Iban, StrictGln};
 use super::reading::answer_by;
 use answer::{Answer, no_rule, refused};
-use ascii::same_bytes;
 use rules::{Rule, rule_for};
 use text::Reading;
 
@@ -50,12 +49,12 @@ pub fn is_valid_creditor_identifier(content: &[u8]) -> Answer
 }
 
 // The answer to a value under a scheme. The content of any other scheme is not looked at; that of this one is read as it stands.
-#[tactic(auto, unfolding(crate::specs::Check::eas_answer, ascii::specs::Pick::pick))]
+#[tactic(auto, using(crate::proofs::Schemes::at_four, crate::proofs::Schemes::at_none), unfolding(crate::specs::Check::eas_answer, ascii::specs::Pick::pick))]
 pub fn eas_value(scheme: &[u8], content: &[u8]) -> Answer
     ensures { result ≡ eas_answer scheme.now content.now }
 {
-    if same_bytes(scheme, b"0088") {
-        return answer_by(Reading::AsItStands, StrictGln, 0, None, content);
+    match scheme {
+        b"0088" => answer_by(Reading::AsItStands, StrictGln, 0, None, content),
+        _ => no_rule(),
     }
-    no_rule()
 }
