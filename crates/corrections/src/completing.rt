@@ -5,7 +5,7 @@ ghost use Rattle.corrections.specs.Completing.{completed_by, completing};
 
 use super::five::{Five, five_of};
 use answer::Reason;
-use figures::{lacking, sum_of, weights_of};
+use figures::{figure_for, sum_of, weights_of};
 
 // A figure at the area's start.
 fn put_figure(figure: &[u8], out: &mut [u8]) -> usize
@@ -32,7 +32,7 @@ fn complete_by(kind: Five, body: &[u8], out: &mut [u8]) -> Result<usize, Reason>
     ) else {
         return Err(Reason::Form);
     };
-    let check = lacking(row.figure, total)?;
+    let check = figure_for(row.figure, total)?;
     if out.len() < 2 {
         return Err(Reason::Room);
     }

@@ -4,7 +4,7 @@ ghost use mir.Val.{bool_byte};
 ghost use Rattle.forms.specs.Table.{digits};
 ghost use Rattle.figures.specs.Total.{total};
 ghost use Rattle.figures.specs.Figures.{weight_at, counted, belgian_pair};
-ghost use Rattle.figures.specs.Inner.{figure_by, weight_by, placed, adds_from, summed_by, total_passes, figure_for};
+ghost use Rattle.figures.specs.Inner.{figure_by, weight_by, placed, adds_from, summed_by, total_passes, lacking, figure_for};
 
 use super::total::{counted, weighted};
 use answer::Reason;
@@ -122,24 +122,29 @@ pub fn passes(kind: Kind, total: u64) -> bool
     }
 }
 
-// The check figure that a body's total lacks, or why a body of 0192 has none.
-pub fn lacking(kind: Kind, total: u64) -> Result<u64, Reason>
-    ensures { result ≡ figure_for kind total }
+// The check figure that a body's total lacks; 10 where a body of 0192 has none. A number and no Option, as its promise says; `figure_for` says
+// why there is none.
+pub fn lacking(kind: Kind, total: u64) -> u64
+    ensures { result ≡ lacking kind total }
 {
     match kind {
-        Kind::Mod10 => Ok((TEN - total % TEN) % TEN),
-        Kind::Mod11 => {
-            if total == 0 {
-                return Err(Reason::Zero);
-            }
-            let check = (ELEVEN - total % ELEVEN) % ELEVEN;
-            if check == 10 {
-                return Err(Reason::NoFigure);
-            }
-            Ok(check)
-        }
-        Kind::Mod97 => Ok(belgian_pair(total)),
-        Kind::Luhn => Ok((TEN - total % TEN) % TEN),
-        Kind::Mod89 => Ok(99 - total % ABN_MODULUS),
+        Kind::Mod10 => (TEN - total % TEN) % TEN,
+        Kind::Mod11 => (ELEVEN - total % ELEVEN) % ELEVEN,
+        Kind::Mod97 => belgian_pair(total),
+        Kind::Luhn => (TEN - total % TEN) % TEN,
+        Kind::Mod89 => 99 - total % ABN_MODULUS,
+    }
+}
+
+// The same, or why a body of 0192 has none.
+#[tactic(auto, unfolding(ascii::specs::Pick::pick))]
+pub fn figure_for(kind: Kind, total: u64) -> Result<u64, Reason>
+    ensures { result ≡ figure_for kind total }
+{
+    let check = lacking(kind, total);
+    match kind {
+        Kind::Mod11 if total == 0 => Err(Reason::Zero),
+        Kind::Mod11 if check == 10 => Err(Reason::NoFigure),
+        _ => Ok(check),
     }
 }

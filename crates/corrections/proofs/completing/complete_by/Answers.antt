@@ -26,7 +26,7 @@ use Rattle.corrections.specs.Completing.{figure_for, no_figure, completed_by}
 use Rattle.corrections.proofs.Outcomes.{works_refused, room_short, room_enough}
 use Rattle.corrections.proofs.Exact.{sum_by_figure}
 use Rattle.corrections.proofs.Checks.{body_total, body_room, given, none_given, some_given, figure_is, figure_small}
-use Rattle.corrections.proofs.completing.complete_by.Goals.{After-lacking}
+use Rattle.corrections.proofs.completing.complete_by.Goals.{After-figure_for}
 use Rattle.corrections.proofs.completing.complete_by.Goals as goal
 
 -- the sum that was asked for, by the row of the scheme
@@ -48,13 +48,13 @@ record Told (k : Five) (body : List ℕ) (tell : Row) (answer : Result ℕ Reaso
   asked : answer ≡ kind_figure (row k).figure (body_total k body)
   answer_is : answer ≡ given (no_figure k body) (check_figure (row k).figure body)
 
-told : (t : After-lacking) → Told t.args.kind t.args.body.now t.row-row.result t.lacking.result
+told : (t : After-figure_for) → Told t.args.kind t.args.body.now t.row-row.result t.figure_for.result
 told t =
     let k = t.args.kind in
     let body = t.args.body.now in
     let parts = sum_means _ _ (sym (sum_of_body _ _ _ _ _ t.row-row.ensures t.weights_of-weights.ensures t.sum_of.ensures) ∙ t.in-Ok.is) in
     let formed : Digits (row k).shortest (row k).longest body = digits_fit (row k).shortest (row k).longest body parts.0 in
-    let asked : t.lacking.result ≡ kind_figure (row k).figure (body_total k body) = t.lacking.ensures ∙ ap (λ (q : Row). kind_figure q.figure t.in-Ok.total) t.row-row.ensures ∙ ap (kind_figure (row k).figure) (sym parts.1) in
+    let asked : t.figure_for.result ≡ kind_figure (row k).figure (body_total k body) = t.figure_for.ensures ∙ ap (λ (q : Row). kind_figure q.figure t.in-Ok.total) t.row-row.ensures ∙ ap (kind_figure (row k).figure) (sym parts.1) in
     record { row_is = t.row-row.ensures; fit = fault_fits (body_form k) body parts.0; asked = asked; answer_is = asked ∙ figure_is body k formed }
 
 module _ {k : Five} {body : List ℕ} {tell : Row} {answer : Result ℕ Reason} (w : Told k body tell answer) where
@@ -95,26 +95,26 @@ pub returns-in_err-check : goal.returns-in_err-check
 returns-in_err-check c =
     let why = c.in_err-check.field-0.0 in
     let e : c.from_residual.result ≡ Err why = search rules in
-    works_refused why _ (stopped (told (goal.at.returns-in_err-check c).After-lacking) _ _ c.in_err-check.was) e
+    works_refused why _ (stopped (told (goal.at.returns-in_err-check c).After-figure_for) _ _ c.in_err-check.was) e
 
 pub returns-then-out-lt2 : goal.returns-then-out-lt2
 returns-then-out-lt2 c =
-    works_refused _ _ (past (told (goal.at.returns-then-out-lt2 c).After-lacking) c.in_ok-check.was _ ∙ room_short 2 _ _ c.if-out-lt2.true) refl
+    works_refused _ _ (past (told (goal.at.returns-then-out-lt2 c).After-figure_for) c.in_ok-check.was _ ∙ room_short 2 _ _ c.if-out-lt2.true) refl
 
 pub overflow_cast-check : goal.overflow_cast-check
-overflow_cast-check c = omega (arith, small (told (goal.at.overflow_cast-check c).After-lacking) c.in_ok-check.was)
+overflow_cast-check c = omega (arith, small (told (goal.at.overflow_cast-check c).After-figure_for) c.in_ok-check.was)
 
 pub overflow_add-check-2 : goal.overflow_add-check-2
-overflow_add-check-2 c = omega (arith, small (told (goal.at.overflow_add-check-2 c).After-lacking) c.in_ok-check.was)
+overflow_add-check-2 c = omega (arith, small (told (goal.at.overflow_add-check-2 c).After-figure_for) c.in_ok-check.was)
 
 pub returns-then-row : goal.returns-then-row
 returns-then-row c =
-    let w = told (goal.at.returns-then-row c).After-lacking in
+    let w = told (goal.at.returns-then-row c).After-figure_for in
     let h = c.in_ok-check.was in
     rw (past w h _, room_enough 2 _ _ c.if-out-lt2.false, pair_done w h c.if-row.true) c.put_figure.ensures
 
 pub returns : goal.returns
 returns c =
-    let w = told (goal.at.returns c).After-lacking in
+    let w = told (goal.at.returns c).After-figure_for in
     let h = c.in_ok-check.was in
     rw (past w h _, room_enough 2 _ _ c.if-out-lt2.false, digit_done w h c.if-row.false) c.put_figure-2.ensures
