@@ -1,10 +1,9 @@
 -- Many lines at once: what is written for the first of them, and what remains. Assumes nothing.
-use Rattle.std.proofs.Common.{◌≡◌, sym, ◌⊎◌, inl, inr, ℕ, suc, ◌+◌, ◌-◌, ◌*◌, ◌/◌, ◌<◌, ◌≤◌, List, [], ◌∷◌, ◌++◌, length, take, drop, refl, ap, ◌∙◌, true, arith, length-append, eqb}
+use Rattle.std.proofs.Common.{slice_set, slice_index_or, ◌≡◌, sym, ◌⊎◌, inl, inr, ℕ, suc, ◌+◌, ◌-◌, ◌*◌, ◌/◌, ◌<◌, ◌≤◌, List, [], ◌∷◌, ◌++◌, length, take, drop, refl, ap, ◌∙◌, true, arith, length-append, eqb}
 use Rattle.std.proofs.lemmas.Fn.{FoldsTo-push, chained_keeps}
 use Rattle.std.specs.List.{FoldsTo}
-use lib.Seq.{paste}
 use Rattle.ascii.specs.Area.{Put}
-use Rattle.ascii.proofs.Area.{put_paste}
+use Rattle.ascii.proofs.Area.{put_stores}
 use Rattle.answer.specs.declared.record.Answer.{Answer}
 use Rattle.answer.specs.Answers.{answer_numbers, in_turn}
 use Rattle.lines.specs.Line.{answer_of}
@@ -18,10 +17,16 @@ use Rattle.batch.specs.Inner.{AnswersNext, EachRight}
 
 -- ---- the numbers of an answer
 
-pub put_numbers : (a : Answer) (l new : List ℕ) (at end : ℕ) → at + numbers_each ≤ length l → end ≡ at + numbers_each → new ≡ paste l at (answer_numbers a) numbers_each
-    → Put numbers_each l at (answer_numbers a) end new
+-- stored one behind the other
+pub put_numbers : (a : Answer) (l ns : List ℕ) (at : ℕ) → at + numbers_each ≤ length l → ns ≡ answer_numbers a
+    → Put numbers_each l at (answer_numbers a) (at + 4)
+    (slice_set (slice_set (slice_set (slice_set l at (slice_index_or ns 0 0)) (at + 1) (slice_index_or ns 1 0)) (at + 2) (slice_index_or ns 2 0)) (at + 3) (slice_index_or ns 3 0))
 unfolding answer_numbers
-put_numbers a l new at end h e k = record { now = k ∙ put_paste l at (answer_numbers a) numbers_each (omega arith); ends = e; few = omega arith }
+put_numbers a l ns at h e =
+    let one : at + 1 ≡ suc at = omega arith in
+    let two : at + 2 ≡ suc (suc at) = omega arith in
+    let three : at + 3 ≡ suc (suc (suc at)) = omega arith in
+    rw (e, one, two, three) (put_stores refl (omega arith) (omega arith) (omega arith))
 
 numbers_long : (xs : List Answer) → length (in_turn answer_numbers xs) ≡ numbers_each * length xs
 unfolding in_turn answer_numbers

@@ -19,14 +19,18 @@ pub struct Batch {
     pub used: usize,
 }
 
-// Stores the numbers of an answer from `at` on, and says where they end.
+// Stores the numbers of an answer from `at` on, and says where they end. Store by store: `copy_from_slice` asks each time whether the areas lie apart.
+#[tactic(auto, using(crate::proofs::Batches::put_numbers))]
 fn put_numbers(a: Answer, out: &mut [u32], at: usize) -> usize
     requires { at + numbers_each ≤ length out.old }
     ensures { Put numbers_each out.old at (answer_numbers a) result out.new }
 {
-    let end = at + NUMBERS;
-    out[at..end].copy_from_slice(&a.numbers());
-    end
+    let [verdict, rule, severity, reason] = a.numbers();
+    out[at] = verdict;
+    out[at + 1] = rule;
+    out[at + 2] = severity;
+    out[at + 3] = reason;
+    at + NUMBERS
 }
 
 // Answers the lines of s, one after the other, as long as out has room for an answer. Either may end first: a for over one counts the other by hand.
