@@ -29,6 +29,7 @@ impl Answer {
     }
 }
 
+// A maker for each kind, and no one function of a verdict: each has a promise of its own, and no reason can be given without a refusal.
 pub fn no_rule() -> Answer
     ensures { result ≡ no_rule }
 {

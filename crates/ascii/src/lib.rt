@@ -12,6 +12,7 @@ pub fn wide(b: u8) -> u32
     u32::from(b)
 }
 
+// By its bounds: std's is_ascii_digit is of a byte or a char, and c is any code point.
 pub fn is_digit(c: u32) -> bool
     ensures { result ≡ is_digit c }
 {

@@ -63,7 +63,8 @@ fn turn(
     Ok(Some(done.kept))
 }
 
-// Turns until the input is over, or a turn fails.
+// Turns until the input is over, or a turn fails. What the areas must hold stands in clauses: array types would say it too, and tie each function to
+// one size.
 fn answer_all(
     input: &mut impl Read,
     rt: &(impl Print + Eprint),

@@ -21,6 +21,7 @@ pub(crate) struct Number<'a> {
     pub ghost summed: { Summed kind digits.now sum },
 }
 
+// That a place lies within the number stands in each method: a type of places would have to borrow the number, and say it at length.
 impl Number<'_> {
     fn digit(&self, i: usize) -> u8
         requires { i < length self.now.digits.now }

@@ -36,7 +36,7 @@ fn show_fed(rt: &impl Print, field: &[u8]) -> io::Result<()> {
     show_numbers(rt, &done.counts)
 }
 
-// Which function a command names. A function of another crate is handed on in a closure: of its name alone the check does not find the contract.
+// Which function a command names: the letter is what the line says, and is asked once. A function of another crate is handed on in a closure: of its name alone the check does not find the contract.
 fn call(rt: &impl Print, command: u8, content: &[u8]) -> io::Result<()> {
     match command {
         b'n' => show_text(rt, text::normalize_space(content)),

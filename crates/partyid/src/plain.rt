@@ -44,7 +44,7 @@ pub struct PartyidCode {
     pub d: u8,
 }
 
-// The reason, 0 where the work is done, and how many digits or entries were written.
+// The reason, 0 where the work is done, and how many digits or entries were written. Not one struct with PartyidText: partyid.h has both.
 #[repr(C)]
 #[derive(Clone, Copy)]
 pub struct PartyidDone {

@@ -16,7 +16,7 @@ fn other_cell(verdict: Verdict) -> usize
     }
 }
 
-// The first of the three cells of the rule that has a number; 562 is what is left.
+// The first of the three cells of the rule that has a number; 562 is what is left. By its number, since that is what an answer carries.
 #[tactic(auto, unfolding(ascii::specs::Pick::pick, rules::specs::Choice::rule_numbered))]
 fn first_cell(number: u32) -> usize
     requires { first_by (rule_numbered number) < 51 }

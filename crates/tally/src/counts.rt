@@ -60,7 +60,8 @@ fn raise(counts: &mut [u32], cell: usize)
     counts[cell] = counts[cell].wrapping_add(1);
 }
 
-// Feeds a line to a tally of which the caller knows whether it is full: a loop over lines need not add up the counts for each.
+// Feeds a line to a tally of which the caller knows whether it is full: a loop over lines need not add up the counts for each. No struct holds
+// the counts and how many more there may be: C lends an array, and each of the three functions has a promise of its own.
 #[tactic(auto, using(crate::proofs::Answers::line_proper), unfolding(crate::specs::Inner::fed_if, ascii::specs::Pick::pick))]
 pub fn count(counts: &mut [u32; 53], full: bool, line: &[u8]) -> Answer
     ensures { fed_in result counts.new ≡ fed_if full counts.old line.now }

@@ -25,7 +25,7 @@ fn is_tail(b: u8) -> bool
 }
 
 // The sequences of two, three and four bytes, by the first and by what stands behind it; low to high is the range of the second. They go into `beyond`, so
-// that no result passes through memory on the way.
+// that no result passes through memory on the way. Three functions, as the RFC has three rows: one for any length would be a loop over the tails.
 #[tactic(auto, using(crate::proofs::Rows::two_good, crate::proofs::Rows::two_bad), unfolding(crate::specs::Utf8::two))]
 #[inline(always)]
 fn pair(a: u8, rest: &[u8]) -> Option<Point>
