@@ -1,4 +1,5 @@
-// The text of an answer.
+// The text of an answer. Writers take an area and the place where the next byte goes, and hand back where it ends: areas are lent, and `Put` says what became
+// of one.
 ghost use Rattle.std.specs.Prelude.{◌≡◌, ◌+◌, ◌≤◌, ◌<◌, length};
 ghost use Rattle.ascii.specs.Area.{Put};
 ghost use Rattle.answer.specs.Text.{numeral, field, answer_text, answer_room};
