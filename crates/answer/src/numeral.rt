@@ -3,7 +3,7 @@ ghost use Rattle.std.specs.Prelude.{◌≡◌, ◌+◌, ◌%◌, ◌≤◌, leng
 ghost use Rattle.ascii.specs.Area.{Put};
 ghost use Rattle.answer.specs.Text.{numeral, field};
 
-// The last digit of a number, as it is written.
+// The last digit of a number, as it is written. Std's char::from_digit gives a char, and perhaps none.
 fn last_digit(n: u32) -> u8
     ensures { result ≡ 48 + n % 10 }
 {

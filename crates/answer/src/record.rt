@@ -9,6 +9,7 @@ use super::verdict::Verdict;
 #[derive(Clone, Copy, PartialEq, Eq, Debug)]
 pub struct Answer {
     pub verdict: Verdict,
+    // as published; 0 where no rule has judged, since an answer is four numbers (docs/RULES.md, The answer)
     pub rule: u32,
     pub severity: Option<Severity>,
     pub reason: Option<Reason>,

@@ -5,7 +5,7 @@ ghost use Rattle.std.specs.Prelude.{◌≡◌};
 ghost use Rattle.ascii.specs.Class.{is_digit, is_letter, is_plain, among};
 ghost use Rattle.ascii.specs.Written.{same_bytes};
 
-// A byte as a code point.
+// A byte as a code point: `u32::from`, by a name that says what for.
 pub fn wide(b: u8) -> u32
     ensures { result ≡ b }
 {
@@ -43,7 +43,7 @@ pub fn among(c: u32, list: &[u32]) -> bool
     found
 }
 
-// Whether two texts are the same, byte for byte.
+// Whether two texts are the same, byte for byte: `==`, by the definition that schemes and codes are compared by.
 pub fn same_bytes(a: &[u8], b: &[u8]) -> bool
     ensures { result ≡ same_bytes a.now b.now }
 {

@@ -76,6 +76,7 @@ fn answer_all(
     requires room { closing_room ≤ length out.old }
 {
     let mut kept = 0;
+    // a count, since every loop must be proved to end
     for _ in 0..u64::MAX {
         match turn(input, rt, buf, kept, out, counts)? {
             Some(next) => kept = next,

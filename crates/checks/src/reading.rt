@@ -17,7 +17,7 @@ fn as_it_stands<J: Judge + Copy>(judge: J, content: &[u8]) -> Finding
     judge.finding(content)
 }
 
-// This and the next differ in the reader that fills the area; a reader passed as a closure would need a contract as long as both.
+// This and the next differ in the reader that fills the area: three lines each, and two in one would be longer than both by the contract of the reader.
 fn normalised<J: Judge + Copy>(judge: J, content: &[u8]) -> Finding
     ensures { result ≡ found_in Normalised (J.finds judge) content.now }
 {

@@ -6,7 +6,7 @@ use figures::Kind;
 use forms::{AUSTRALIAN, BELGIAN, NORWEGIAN, SWEDISH};
 use rules::Rule;
 
-// 0088, 0192, 0208, 0007 and 0151.
+// 0088, 0192, 0208, 0007 and 0151. Not figures' Kind: a scheme has a rule and forms besides its check figure.
 #[derive(Clone, Copy, PartialEq, Eq, Debug)]
 pub enum Five {
     Gln,
@@ -116,7 +116,7 @@ impl Five {
     }
 }
 
-// The one whose rule goes by a scheme, if any does.
+// The one whose rule goes by a scheme, if any does. A match: a find over the rules' schemes made completing a third slower.
 #[tactic(auto, using(crate::proofs::Schemes::at_four, crate::proofs::Schemes::at_none), unfolding(crate::specs::Five::five_of))]
 pub fn five_of(scheme: &[u8]) -> Option<Five>
     ensures { result ≡ five_of scheme.now }

@@ -29,7 +29,7 @@ fn room() -> [u8; 524288]
     [0; 524288]
 }
 
-// Reads until the area is full or the input ends; the length of what was read comes back.
+// Reads until the area is full or the input ends; the length of what was read comes back. A while, since a step is as long as what was read.
 fn read_full(input: &mut impl Read, out: &mut [u8]) -> io::Result<usize>
     ensures { IfOk result (λ n. n ≤ length out.new) }
 {

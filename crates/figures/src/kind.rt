@@ -83,7 +83,7 @@ pub fn share(kind: Kind, w: u32, d: u8) -> u64
 }
 
 // The total of least to most digits by the weights of their places; where a check digit is still to come, the last place is for it. More digits
-// than places are too long.
+// than places are too long. The form first, by the one test of forms, and then the total.
 pub fn sum_of(
     kind: Kind,
     weights: &[u32],

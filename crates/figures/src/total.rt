@@ -88,7 +88,7 @@ pub(crate) fn abn_total(s: &[u8]) -> i64
     let weights = MOD89;
     let rest = weighted(&s[1..11], &weights, false);
     let digit = s[0] - 48;
-    // `as` in all three: no From takes a u64 to an i64
+    // by `as`, as no From takes a u64; i64::from was tried for the other two, and the proof of the total did not close
     let first = (digit as i64) - 1;
     (weights[10] as i64) * first + (rest as i64)
 }

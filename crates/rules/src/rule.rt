@@ -60,26 +60,59 @@ impl Rule {
     // How many rules there are.
     pub const COUNT: usize = 17;
 
+    // The schemes, as they are written.
+    pub const SCHEME_0088: [u8; 4] = *b"0088";
+
+    pub const SCHEME_0192: [u8; 4] = *b"0192";
+
+    pub const SCHEME_0184: [u8; 4] = *b"0184";
+
+    pub const SCHEME_0208: [u8; 4] = *b"0208";
+
+    pub const SCHEME_0201: [u8; 4] = *b"0201";
+
+    pub const SCHEME_0210: [u8; 4] = *b"0210";
+
+    pub const SCHEME_9907: [u8; 4] = *b"9907";
+
+    pub const SCHEME_0211: [u8; 4] = *b"0211";
+
+    pub const SCHEME_0007: [u8; 4] = *b"0007";
+
+    pub const SCHEME_0151: [u8; 4] = *b"0151";
+
+    pub const SCHEME_0096: [u8; 4] = *b"0096";
+
+    pub const SCHEME_0198: [u8; 4] = *b"0198";
+
+    pub const SCHEME_0106: [u8; 4] = *b"0106";
+
+    pub const SCHEME_0190: [u8; 4] = *b"0190";
+
+    pub const SCHEME_0217: [u8; 4] = *b"0217";
+
+    pub const SCHEME_9944: [u8; 4] = *b"9944";
+
     pub fn facts(self) -> Fixed
         ensures { result ≡ facts self }
     {
         match self {
-            Rule::R40 => row(0, 40, Fatal, Some(*b"0088"), Normalised),
-            Rule::R41 => row(1, 41, Fatal, Some(*b"0192"), Normalised),
-            Rule::R42 => row(2, 42, Fatal, Some(*b"0184"), AsItStands),
-            Rule::R43 => row(3, 43, Fatal, Some(*b"0208"), Normalised),
-            Rule::R44 => row(4, 44, Warning, Some(*b"0201"), Normalised),
-            Rule::R45 => row(5, 45, Warning, Some(*b"0210"), Normalised),
-            Rule::R46 => row(6, 46, Warning, Some(*b"9907"), Normalised),
-            Rule::R47 => row(7, 47, Warning, Some(*b"0211"), Normalised),
-            Rule::R49 => row(8, 49, Fatal, Some(*b"0007"), Normalised),
-            Rule::R50 => row(9, 50, Fatal, Some(*b"0151"), Normalised),
-            Rule::R52 => row(10, 52, Fatal, Some(*b"0096"), AsItStands),
-            Rule::R53 => row(11, 53, Fatal, Some(*b"0198"), AsItStands),
-            Rule::R54 => row(12, 54, Warning, Some(*b"0106"), Normalised),
-            Rule::R55 => row(13, 55, Warning, Some(*b"0190"), Normalised),
-            Rule::R57 => row(14, 57, Warning, Some(*b"0217"), Normalised),
-            Rule::R561 => row(15, 561, Warning, Some(*b"9944"), Normalised),
+            Rule::R40 => row(0, 40, Fatal, Some(Rule::SCHEME_0088), Normalised),
+            Rule::R41 => row(1, 41, Fatal, Some(Rule::SCHEME_0192), Normalised),
+            Rule::R42 => row(2, 42, Fatal, Some(Rule::SCHEME_0184), AsItStands),
+            Rule::R43 => row(3, 43, Fatal, Some(Rule::SCHEME_0208), Normalised),
+            Rule::R44 => row(4, 44, Warning, Some(Rule::SCHEME_0201), Normalised),
+            Rule::R45 => row(5, 45, Warning, Some(Rule::SCHEME_0210), Normalised),
+            Rule::R46 => row(6, 46, Warning, Some(Rule::SCHEME_9907), Normalised),
+            Rule::R47 => row(7, 47, Warning, Some(Rule::SCHEME_0211), Normalised),
+            Rule::R49 => row(8, 49, Fatal, Some(Rule::SCHEME_0007), Normalised),
+            Rule::R50 => row(9, 50, Fatal, Some(Rule::SCHEME_0151), Normalised),
+            Rule::R52 => row(10, 52, Fatal, Some(Rule::SCHEME_0096), AsItStands),
+            Rule::R53 => row(11, 53, Fatal, Some(Rule::SCHEME_0198), AsItStands),
+            Rule::R54 => row(12, 54, Warning, Some(Rule::SCHEME_0106), Normalised),
+            Rule::R55 => row(13, 55, Warning, Some(Rule::SCHEME_0190), Normalised),
+            Rule::R57 => row(14, 57, Warning, Some(Rule::SCHEME_0217), Normalised),
+            Rule::R561 => row(15, 561, Warning, Some(Rule::SCHEME_9944), Normalised),
             Rule::R562 => row(16, 562, Warning, None, Normalised),
         }
     }

@@ -15,6 +15,7 @@ pub struct Turned {
     pub over: bool,
 }
 
+// The areas and lengths stand by themselves and in no struct: the promise names each of them, and a program lends its own.
 // One turn: buf[..kept + fresh] is input that is not answered yet, of which `fresh` bytes were just read; none means that the input
 // has ended. Stores the answers to its whole lines at the start of out, counts them, and moves what is kept of the rest to the start of buf. Where the
 // input has ended and no whole line is answered, it is over, and where out has room for

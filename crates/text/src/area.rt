@@ -30,7 +30,7 @@ pub(crate) fn refuse(reason: Reason, out: &mut [u8; 1024]) -> Result<usize, Reas
     Err(reason)
 }
 
-// The bytes of a code point go to the area, from n on. Tried with copy_from_slice, which is slower: it calls memmove for two to four bytes.
+// The bytes of a code point go to the area, from n on. Byte by byte: copy_from_slice calls memmove for two to four bytes, which is slower.
 pub(crate) fn put(out: &mut [u8; 1024], n: usize, bytes: &[u8])
     requires { (n + length bytes.now ≤ 1024) × (length out.old ≡ 1024) }
     ensures { out.new ≡ put out.old n bytes.now }
@@ -44,7 +44,8 @@ pub(crate) fn put(out: &mut [u8; 1024], n: usize, bytes: &[u8])
     }
 }
 
-// The bytes at the front that are code points by themselves and not white go to the area, from n on; how many they are.
+// The bytes at the front that are code points by themselves and not white go to the area, from n on; how many they are. One index
+// for both, since the first other byte ends it.
 pub(crate) fn put_dark(s: &[u8], out: &mut [u8; 1024], n: usize) -> usize
     requires { (n + length s.now ≤ 1024) × (length out.old ≡ 1024) }
     ensures { IsRun s.now out.old n result out.new }
