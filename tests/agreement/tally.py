@@ -32,7 +32,7 @@ def rule_numbers(crates: pathlib.Path) -> list[int]:
 def places(crates: pathlib.Path) -> Places:
     """By the definitions, which give each place to one rule and verdict."""
     verdicts = dict(cases(crates)["verdict"])
-    each = int(number_in(crates, CELLS, r"^cell_by \(By r\) v = (\d+) \* \(facts r\)\.index \+ \(verdict_number v - 1\)$"))
+    each = int(number_in(crates, CELLS, r"^cell_by \(Some r\) v = (\d+) \* \(facts r\)\.index \+ \(verdict_number v - 1\)$"))
     found = {(rule, verdicts[name]): each * i + verdicts[name] - 1 for i, rule in enumerate(rule_numbers(crates)) for name in BY_RULE}
     found |= {(0, verdicts[name]): int(number_in(crates, CELLS, of)) for name, of in WITHOUT_RULE.items()}
     if sorted(found.values()) != list(range(int(number_in(crates, CELLS, r"^tally_size = (\d+)$")))):
