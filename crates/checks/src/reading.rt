@@ -34,6 +34,7 @@ fn stripped<J: Judge + Copy>(judge: J, content: &[u8]) -> Finding
     judge.finding(text::first_bytes(&area, n))
 }
 
+// A match, since how a rule reads a content is one of its facts.
 #[inline(always)]
 fn found_in<J: Judge + Copy>(how: Reading, judge: J, content: &[u8]) -> Finding
     ensures { result ≡ found_in how (J.finds judge) content.now }

@@ -36,6 +36,7 @@ pub struct Row {
 }
 
 impl Five {
+    // Each row by the names of its fields: a maker of ten parameters would be shorter, and say less.
     pub fn row(self) -> Row
         ensures { result ≡ row self }
     {

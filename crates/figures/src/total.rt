@@ -48,7 +48,8 @@ fn lead(s: &[u8], last: u32, before: u32, fold: bool) -> u32
     0
 }
 
-// The total by two weights that alternate leftwards from the last digit. It goes from the left, two digits at a time.
+// The total by two weights that alternate leftwards from the last digit. It goes from the left, two digits at a time. The weights and whether digits are
+// added are GS1's or Luhn's: a struct of the three would be made at each of three calls, and taken apart in each digit's part.
 pub(crate) fn alternating(s: &[u8], last: u32, before: u32, fold: bool) -> u32
     requires digits { all is_digit s.now ≡ true }
     requires few { length s.now ≤ 1024 }

@@ -12,7 +12,8 @@ pub enum Fault {
     At(usize),
 }
 
-// Whether a byte is of a class: `#` a digit, `&` a letter, `*` a letter or a digit, any other byte itself.
+// Whether a byte is of a class: `#` a digit, `&` a letter, `*` a letter or a digit, any other byte itself. By the
+// classes of ascii, which the definition names too.
 #[tactic(auto, using(crate::proofs::Laws::class_digit, crate::proofs::Laws::class_letter, crate::proofs::Laws::class_plain, crate::proofs::Laws::class_self))]
 fn of_class(class: u8, b: u8) -> bool
     ensures { result ≡ of_class class b }

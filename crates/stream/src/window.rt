@@ -16,7 +16,8 @@ struct Fed {
     put: usize,
 }
 
-// Answers the whole lines of s, one after the other, as long as out has room for an answer. The counts are added up once.
+// Answers the whole lines of s, one after the other, as long as out has room for an answer. The counts are added up once. Not batch's
+// loop: here a line without its newline waits, and there it is the last one.
 fn feed(s: &[u8], out: &mut [u8], counts: &mut [u32; 53]) -> Fed
     ensures right { FedRight s.now counts.old counts.new out.old out.new result.used result.put }
     ensures within { result.used ≤ length s.now }

@@ -27,7 +27,7 @@ fn put_line(number: u32, counts: &[u32], out: &mut [u8], at: usize) -> usize
     put_field(out, n, counts[2], b'\n')
 }
 
-// The two others.
+// The two others. Not one function with a rule's line, nor with the stream's answer: a line has two, four or four smaller numbers, and tells the room for each.
 fn put_others(others: &[u32], out: &mut [u8], at: usize) -> usize
     requires two { length others.now ≡ 2 }
     requires room { at + 22 ≤ length out.old }

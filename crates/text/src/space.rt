@@ -9,7 +9,8 @@ use super::utf8::first_point;
 use super::white::is_white;
 use answer::Reason;
 
-// The content's words in the caller's area: if `spaced` with one space between two of them, and else with nothing.
+// The content's words in the caller's area: if `spaced` with one space between two of them, and else with nothing. A
+// flag and no function: they differ in one byte.
 #[inline(always)]
 fn put_words(s: &[u8], spaced: bool, out: &mut [u8; 1024]) -> Result<usize, Reason>
     ensures { text_in result out.new ≡ pick spaced (normal_text s.now) (stripped_text s.now) }
