@@ -1,24 +1,23 @@
 -- One total says what the rule says: of a number of the right form, and of one with a digit replaced or two exchanged. Assumes nothing.
 use mathlib.Core.Path.{◌≡◌, refl, sym, ap, ◌∙◌}
 use mathlib.Core.Bool.{Bool, true, false, not, ◌&&◌}
-use mathlib.Core.List.{List, [], ◌∷◌}
-use Prim.Native.Nat.{ℕ, ◌+◌, ◌-◌, ◌*◌, ◌/◌, ◌%◌, ◌^◌, ◌≤◌, ◌<◌}
-use native.Mathlib.Nat.{mul_assoc}
+use mathlib.Core.List.{List}
+use Prim.Native.Nat.{ℕ, ◌+◌, ◌-◌, ◌*◌, ◌%◌, ◌≤◌, ◌<◌}
 use native.Mathlib.Omega.{arith}
-use borrow.Author.Tests.{eqb-true, leb-true}
+use borrow.Author.Tests.{leb-true}
 use mir.Val.{bool_byte}
 use lib.Dec.{eqb, leb}
 use lib.IntN.{nat_abs, sub_ℕ}
-use lib.ListN.{length, get_or, set, take, drop, length-set, length-take, length-drop, take-append-drop}
+use lib.ListN.{length, get_or, set, take, drop, length-set}
 use Rattle.std.specs.Prelude.{Result, Ok, ⊤}
-use Rattle.ascii.specs.Class.{is_digit, all}
+use Rattle.ascii.specs.Class.{is_digit}
 use Rattle.ascii.proofs.Tests.{eqb_iff, below_at}
-use Rattle.ascii.proofs.Class.{digit_bounds, digit_inside, all_at, all_first, all_rest, all_drop}
+use Rattle.ascii.proofs.Class.{digit_bounds, digit_inside, all_at}
 use Rattle.forms.specs.Form.{fault_of}
 use Rattle.forms.specs.Table.{digits}
 use Rattle.forms.specs.declared.form.Fault.{Fault}
 use Rattle.forms.proofs.OfDigits.{Digits, digits_fit, fit_digits}
-use Rattle.figures.specs.Total.{total, digit_at, number}
+use Rattle.figures.specs.Total.{digit_at, number}
 use Rattle.figures.specs.Figures.{weight_at, counted, total_by, right, figure40, figure41, belgian_pair, luhn, figure50}
 use Rattle.figures.specs.Inner.{figure_by, weight_by, adds_from, summed, summed_by, total_passes}
 use Rattle.figures.specs.declared.kind.Kind.{Kind}
@@ -32,7 +31,8 @@ use Rattle.figures.proofs.Steps.{within_table}
 use Rattle.figures.proofs.Adding.{adds_zero, share_small, total_small, placed_length, placed_at, with_zero, with_pending, sum_formed, sum_same}
 use Rattle.figures.proofs.Zeros.{zeros41}
 use Rattle.figures.proofs.Shift.{total_set, total_exchanged}
-use Rattle.figures.proofs.Links.{join, total_reduced, leaves_ten, ten_leaves}
+use Rattle.figures.proofs.Pair.{by_total}
+use Rattle.figures.proofs.Links.{total_reduced, leaves_ten, ten_leaves}
 use Rattle.figures.proofs.Detect.{digits_exchanged}
 use Rattle.rules.specs.Finding.{accepts}
 use Rattle.corrections.specs.declared.five.Five.{Five}
@@ -40,42 +40,6 @@ use Rattle.corrections.specs.declared.five.Five.TheVariants.{Gln, Norway, Belgiu
 use Rattle.corrections.specs.Five.{row, rule_of}
 use Rattle.corrections.specs.Corrections.{replaced}
 use Rattle.corrections.specs.Inner.{adds_by, sharing, places_of, Summed}
-
--- ---- 0208: the number itself, and its first eight and last two digits
-
-hundreds : (f : ℕ → ℕ → ℕ) (s : List ℕ) → total (λ k d. 100 * f k d) s ≡ 100 * total f s
-hundreds f [] = refl
-hundreds f (b ∷ s) = omega (arith, hundreds f s)
-
-two_more : (k d : ℕ) → k < 8 → 10 ^ (k + 2) * d ≡ 100 * (10 ^ k * d)
-two_more k d l =
-    ap (λ w. w * d) (eqb-true (10 ^ (k + 2)) (100 * 10 ^ k) (below_at 8 (λ j. eqb (10 ^ (j + 2)) (100 * 10 ^ j)) refl k l))
-    ∙ mul_assoc 100 (10 ^ k) d
-
-eight_two : (s : List ℕ) → length s ≡ 10 → number s ≡ 100 * number (take 8 s) + number (drop 8 s)
-eight_two s n =
-    let ld : length (drop 8 s) ≡ 2 = omega (arith, length-drop 8 s) in
-    let h = hundreds (λ k d. 10 ^ k * d) (take 8 s) in
-    sym (ap number (take-append-drop 8 s))
-    ∙ join (λ k d. 10 ^ k * d) (λ k d. 100 * (10 ^ k * d)) (λ k d. 10 ^ k * d) (take 8 s) (drop 8 s)
-    (λ k d l. rw ld (two_more k d (omega (arith, length-take 8 s))))
-    (λ k d l. refl)
-    ∙ ap (λ t. t + number (drop 8 s)) h
-
-below_hundred : (s : List ℕ) → length s ≡ 2 → all is_digit s ≡ true → number s < 100
-below_hundred [] n h = absurd (omega arith)
-below_hundred (a ∷ []) n h = absurd (omega arith)
-below_hundred (a ∷ b ∷ []) n h =
-    let p = digit_bounds a (all_first is_digit a (b ∷ []) h) in
-    let q = digit_bounds b (all_first is_digit b [] (all_rest is_digit a (b ∷ []) h)) in
-    omega arith
-below_hundred (a ∷ b ∷ c ∷ s) n h = absurd (omega arith)
-
-apart : (t x y : ℕ) → t ≡ 100 * x + y → y < 100 → eqb y (belgian_pair x) ≡ eqb (t % 100) (belgian_pair (t / 100))
-apart t x y e l =
-    let p : t % 100 ≡ y = omega arith in
-    let q : t / 100 ≡ x = omega arith in
-    rw (p, q)
 
 -- ---- each rule of a number of the right form
 
@@ -93,8 +57,7 @@ exact Norway s d =
 exact Belgium s d =
     let n : length s ≡ 10 = omega (arith, d.least, d.most) in
     good_by (eqb (number (drop 8 s)) (belgian_pair (number (take 8 s)))) (fit_digits 10 10 s d)
-    ∙ apart (number s) (number (take 8 s)) (number (drop 8 s)) (eight_two s n)
-    (below_hundred (drop 8 s) (omega (arith, length-drop 8 s)) (all_drop is_digit 8 s d.digit))
+    ∙ by_total s n d.digit
     ∙ ap (total_passes Mod97) (sym (by_powers s d.most))
 exact Sweden s d = good_by (right luhn s) (fit_digits 10 10 s d)
 exact Australia s d =

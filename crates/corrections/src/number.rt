@@ -40,7 +40,7 @@ impl Number<'_> {
     }
 
     // The digit that makes the rule accept the number when it stands at i; there is one at most.
-    pub fn digit_at(&self, i: usize) -> Option<u8>
+    pub(crate) fn digit_at(&self, i: usize) -> Option<u8>
         requires { i < length self.now.digits.now }
         ensures found { fixes_at (rule_of self.now.kind) self.now.digits.now i ≡ mended self.now.digits.now i result }
         ensures digit { IfSome result (λ d. d < 10) }
@@ -56,7 +56,7 @@ impl Number<'_> {
     }
 
     // The rule on the number with the digits at i and i + 1 exchanged.
-    pub fn accepts_exchanged(&self, i: usize) -> bool
+    pub(crate) fn accepts_exchanged(&self, i: usize) -> bool
         requires { i + 1 < length self.now.digits.now }
         ensures { result ≡ accepts (rule_of self.now.kind) (exchanged self.now.digits.now i) }
     {
