@@ -3,13 +3,15 @@ use mathlib.Core.Path.{◌≡◌, refl}
 use mathlib.Core.Bool.{Bool, true, ◌&&◌}
 use mathlib.Core.List.{List, [], ◌∷◌}
 use Prim.Native.Nat.{ℕ, zero, suc, pred, ◌<◌}
+use native.Mathlib.Omega.{arith}
+use Rattle.std.specs.Prelude.{Option, Some, None}
 use borrow.Author.Tests.{ltb-true}
 use lib.Dec.{ltb}
 use lib.ListN.{get_or}
 use Rattle.ascii.proofs.Tests.{and_true}
 use Rattle.answer.specs.declared.reason.Reason.{Reason}
 use Rattle.answer.specs.declared.reason.Reason.TheVariants.{Long, Utf8, Form, Check, Zero, NoFigure, Scheme, Room, Good, Term, Line, Full}
-use Rattle.answer.specs.Numbers.{reason_number}
+use Rattle.answer.specs.Numbers.{or_zero, reason_number}
 
 -- in the order of their numbers
 abbrev reasons : List Reason
@@ -45,3 +47,11 @@ every_reason p e r = rw (stands r) at (each_at p reasons (pred (reason_number r)
 
 pub reason_small : (r : Reason) → reason_number r < 100
 reason_small r = ltb-true _ _ (every_reason (λ r. ltb (reason_number r) 100) refl r)
+
+-- 0 is the number of no reason, and stands for none
+reason_given : (r : Reason) → 0 < reason_number r
+reason_given r = ltb-true _ _ (every_reason (λ r. ltb 0 (reason_number r)) refl r)
+
+pub none_means : (r : Option Reason) → or_zero reason_number r ≡ 0 → r ≡ None
+none_means None e = refl
+none_means (Some r) e = absurd (let g = reason_given r in omega arith)

@@ -17,7 +17,7 @@ fn digit(d: u32) -> u8
     (48 + d) as u8
 }
 
-// A number of an answer, of at most three digits. With `answer::put_field`, which calls itself for each further digit, the line program takes 6 % longer.
+// A number of an answer, of at most three digits. With `tally`'s, which calls itself for each further digit, the line program takes 6 % longer.
 fn put_number(out: &mut [u8], at: usize, n: u32) -> usize
     requires room { at + 3 ≤ length out.old }
     requires small { n < 1000 }

@@ -5,7 +5,7 @@ ghost use Rattle.ascii.specs.Pick.{pick};
 ghost use Rattle.answer.specs.Text.{numbers_text};
 ghost use Rattle.tally.specs.Text.{tally_text, tally_room};
 
-use answer::put_field;
+use super::numeral::put_field;
 
 // The bytes that a tally's text takes at most.
 const ROOM: usize = 770;

@@ -4,6 +4,7 @@
 mod cells;
 mod counts;
 mod counts_text;
+mod numeral;
 
 pub use counts::{Fed, count, feed, feed_line, fewer, fresh, left};
 pub use counts_text::put_text;

@@ -1,6 +1,6 @@
 use Rattle.std.proofs.Common.{arith}
 use Rattle.answer.proofs.Numerals.{field_long, behind_fits, put_behind_it}
-use Rattle.answer.proofs.numeral.put_field.Goals as goal
+use Rattle.tally.proofs.numeral.put_field.Goals as goal
 
 pub put_numeral-k-requires : goal.put_numeral-k-requires
 put_numeral-k-requires c = omega (arith, c.requires, field_long c.args.n c.args.behind)

@@ -1,6 +1,6 @@
 use Rattle.std.proofs.Common.{arith}
 use Rattle.answer.proofs.Numerals.{one_long, put_digit, tenth_fits, digit_fits, put_next}
-use Rattle.answer.proofs.numeral.+put_numeral.Goals as goal
+use Rattle.tally.proofs.numeral.+put_numeral.Goals as goal
 
 pub bounds-out-at : goal.bounds-out-at
 bounds-out-at t c = omega (arith, c.requires, one_long c.args.n c.if-n-lt10.true)

@@ -11,7 +11,7 @@ fn last_digit(n: u32) -> u8
 }
 
 // Stores a number in decimal from `at` on, and says where it ends. There is room for it.
-pub fn put_numeral(out: &mut [u8], at: usize, n: u32) -> usize
+fn put_numeral(out: &mut [u8], at: usize, n: u32) -> usize
     requires { at + length (numeral n) ≤ length out.old }
     ensures { Put (length (numeral n)) out.old at (numeral n) result out.new }
 {
@@ -25,7 +25,7 @@ pub fn put_numeral(out: &mut [u8], at: usize, n: u32) -> usize
 }
 
 // The same, and the byte behind it.
-pub fn put_field(out: &mut [u8], at: usize, n: u32, behind: u8) -> usize
+pub(crate) fn put_field(out: &mut [u8], at: usize, n: u32, behind: u8) -> usize
     requires { at + length (field n behind) ≤ length out.old }
     ensures { Put (length (field n behind)) out.old at (field n behind) result out.new }
 {
