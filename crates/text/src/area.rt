@@ -59,3 +59,8 @@ pub(crate) fn put_dark(s: &[u8], out: &mut [u8; 1024], n: usize) -> usize
     }
     s.len()
 }
+
+// Whether a run has a byte. For speed alone, and so without a promise: a run of none is a run.
+pub(crate) fn begins_dark(s: &[u8]) -> bool {
+    matches!(s, [b, ..] if is_dark_byte(*b))
+}

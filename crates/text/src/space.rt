@@ -4,7 +4,7 @@ ghost use Rattle.std.specs.Fn.{FnOnceReturnsAtMut};
 ghost use Rattle.ascii.specs.Pick.{pick};
 ghost use Rattle.text.specs.Answer.{stripped_text, normal_text, text_in};
 
-use super::area::{Text, put, put_dark, refuse};
+use super::area::{Text, begins_dark, put, put_dark, refuse};
 use super::utf8::first_point;
 use super::white::is_white;
 use answer::Reason;
@@ -24,7 +24,7 @@ fn put_words(s: &[u8], spaced: bool, out: &mut [u8; 1024]) -> Result<usize, Reas
     let mut due = false;
     let mut rest = s;
     loop {
-        if !due {
+        if !due & begins_dark(rest) {
             let k = put_dark(rest, out, n);
             n += k;
             rest = rest.split_at(k).1;

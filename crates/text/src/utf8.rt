@@ -71,8 +71,8 @@ fn quad(a: u8, low: u8, high: u8, rest: &[u8]) -> Option<Point>
     }
 }
 
-// The rows of the table past the first, kept out of `first_point` so that this one stays small enough to go into a loop.
-#[inline(never)]
+// The rows of the table past the first. They go into each loop with `first_point`: handed back in memory, points of two bytes took a third longer.
+#[inline(always)]
 #[tactic(auto, using(crate::proofs::Rows::rows))]
 fn beyond(a: u8, rest: &[u8]) -> Option<Point>
     requires { 0x7f < a }
@@ -92,7 +92,7 @@ fn beyond(a: u8, rest: &[u8]) -> Option<Point>
 }
 
 // The code point that some bytes begin with, by the table of RFC 3629; none where they begin with nothing well-formed.
-#[inline]
+#[inline(always)]
 #[tactic(auto, using(crate::proofs::Rows::row_1), unfolding(crate::specs::Utf8::step_of))]
 pub(crate) fn first_point(s: &[u8]) -> Option<Point>
     ensures { result ≡ step_of s.now }

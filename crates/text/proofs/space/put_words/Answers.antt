@@ -1,11 +1,12 @@
 use mathlib.Core.Path.{◌≡◌, sym, ap, ◌∙◌}
 use Prim.Native.Nat.{◌≤◌}
 use native.Mathlib.Omega.{arith}
-use borrow.Author.Tests.{eqb-true, tests}
+use borrow.Author.Tests.{eqb-true, not-true, tests}
 use lib.ListN.{length}
+use Rattle.ascii.proofs.Tests.{and_true}
 use Rattle.text.specs.Utf8.{point, step_of}
 use Rattle.text.proofs.Walk.{State, long, begin, area_long, add_run, stop, finish, fits, pass, add, add_spaced}
-use Rattle.text.proofs.space.put_words.Goals.{After-first_point, In-Some, then-not-due, else-not-due, then-due, else-due}
+use Rattle.text.proofs.space.put_words.Goals.{After-first_point, In-Some, then-due-begins_dark, else-due-begins_dark, then-due, else-due}
 use Rattle.text.proofs.space.put_words.Goals as goal
 
 pub returns-then-s-gt1024 : goal.returns-then-s-gt1024
@@ -18,21 +19,21 @@ pub put_dark-k-requires : goal.put_dark-k-requires
 put_dark-k-requires c = let i = c.loop-due.invariant in (i.room, area_long i)
 
 -- behind the run
-run : (c : After-first_point) → State c.args.spaced c.args.s.now c.loop-due.due c.if-not-due.n c.if-not-due.rest.now c.if-not-due.out
+run : (c : After-first_point) → State c.args.spaced c.args.s.now c.loop-due.due c.if-due-begins_dark.n c.if-due-begins_dark.rest.now c.if-due-begins_dark.out
 run c =
-    elim c.if-not-due.branch [
-      | then-not-due w ↦ rw (w.out-is, w.n-is, ap (λ r. r.now) w.rest-is, w.split_at.ensures.back) (add_run c.loop-due.invariant w.if-not-due.true w.put_dark-k.ensures)
-      | else-not-due w ↦ rw (w.out-is, w.n-is, ap (λ r. r.now) w.rest-is) c.loop-due.invariant
+    elim c.if-due-begins_dark.branch [
+      | then-due-begins_dark w ↦ rw (w.out-is, w.n-is, ap (λ r. r.now) w.rest-is, w.split_at.ensures.back) (add_run c.loop-due.invariant (not-true c.loop-due.due (and_true _ _ w.if-due-begins_dark.true).0) w.put_dark-k.ensures)
+      | else-due-begins_dark w ↦ rw (w.out-is, w.n-is, ap (λ r. r.now) w.rest-is) c.loop-due.invariant
     ]
 
-less : (c : After-first_point) → length c.if-not-due.rest.now ≤ length c.loop-due.rest.now
+less : (c : After-first_point) → length c.if-due-begins_dark.rest.now ≤ length c.loop-due.rest.now
 less c =
-    elim c.if-not-due.branch [
-      | then-not-due w ↦ rw (ap (λ r. r.now) w.rest-is) (let b = w.split_at.ensures.back_len in omega arith)
-      | else-not-due w ↦ rw (ap (λ r. r.now) w.rest-is) (omega arith)
+    elim c.if-due-begins_dark.branch [
+      | then-due-begins_dark w ↦ rw (ap (λ r. r.now) w.rest-is) (let b = w.split_at.ensures.back_len in omega arith)
+      | else-due-begins_dark w ↦ rw (ap (λ r. r.now) w.rest-is) (omega arith)
     ]
 
-read : (c : In-Some) → point c.in-Some.point.code c.in-Some.point.len ≡ step_of c.if-not-due.rest.now
+read : (c : In-Some) → point c.in-Some.point.code c.in-Some.point.len ≡ step_of c.if-due-begins_dark.rest.now
 read c = sym c.in-Some.is ∙ c.first_point.ensures
 
 pub split_at-requires-in-loop-due : goal.split_at-requires-in-loop-due
@@ -82,6 +83,6 @@ returns-then-is_empty c =
 
 pub returns-else-is_empty : goal.returns-else-is_empty
 returns-else-is_empty c =
-    let z : 1 ≤ length c.if-not-due.rest.now = grind (arith, tests, c.is_empty.ensures, c.if-is_empty.false) in
+    let z : 1 ≤ length c.if-due-begins_dark.rest.now = grind (arith, tests, c.is_empty.ensures, c.if-is_empty.false) in
     c.refuse-else-is_empty.ensures
     ∙ stop (run (goal.at.returns-else-is_empty c).After-first_point) z (sym c.in_default.is ∙ c.first_point.ensures)
