@@ -6,8 +6,9 @@ use Prim.Native.Nat.{ℕ, zero, suc, ◌+◌, ◌≤◌, ◌<◌}
 use native.Mathlib.Nat.{suc-add}
 use native.Mathlib.Omega.{arith}
 use lib.Dec.{eqb}
-use lib.ListN.{length, take, drop}
-use Rattle.std.proofs.Common.{Option, None, Some, unwrap_or}
+use lib.ListN.{length, take, drop, get_or}
+use borrow.Author.Tests.{eq-eqb, ne_eqb}
+use Rattle.std.proofs.Common.{Option, None, Some, unwrap_or, add-one, drop-cons}
 use Rattle.std.proofs.lemmas.Bool.{false_from_ne_true}
 use Rattle.std.proofs.lemmas.List.Sums.{position_or_len_is, prefix_len-le-length}
 use Rattle.memchr.specs.Find.{IsFirstByte, is_byte}
@@ -78,6 +79,14 @@ upto_found s None f =
     sym (position_or_len_is (is_byte newline) s (length s) 0 (omega arith) (λ k h. false_from_ne_true _ (f k (omega arith) h)) (λ h. absurd (omega arith)))
 upto_found s (Some n) f =
     sym (position_or_len_is (is_byte newline) s n 0 (omega arith) (λ k h. false_from_ne_true _ (f.0.before k (omega arith) h)) (λ h. f.1))
+
+-- byte by byte
+
+pub upto_here : (s : List ℕ) (i : ℕ) → i < length s → get_or s i 0 ≡ 10 → upto (drop i s) ≡ 0
+upto_here s i h e = rw (drop-cons s i 0 h) (upto_newline (get_or s i 0) (drop (suc i) s) (eq-eqb _ _ e))
+
+pub upto_past : (s : List ℕ) (i : ℕ) → i < length s → (get_or s i 0 ≡ 10 → ⊥) → upto (drop i s) ≡ suc (upto (drop (i + 1) s))
+upto_past s i h n = rw (drop-cons s i 0 h, add-one i) (upto_byte (get_or s i 0) (drop (suc i) s) (ne_eqb _ _ n))
 
 pub upto_le : (s : List ℕ) → upto s ≤ length s
 unfolding upto
