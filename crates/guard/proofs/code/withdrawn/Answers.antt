@@ -1,4 +1,4 @@
-use Rattle.std.proofs.Common.{refl, sym, ◌∙◌, [], None}
+use Rattle.std.proofs.Common.{rules, refl, sym, ◌∙◌, [], None}
 use Rattle.guard.specs.Codes.{withdrawn_of}
 use Rattle.guard.proofs.Rows.{row_hit, row_miss, row_end}
 use Rattle.guard.proofs.code.withdrawn.Goals as goal
@@ -9,7 +9,8 @@ loop-old-init c = refl
 
 pub returns-then-same_bytes : goal.returns-then-same_bytes
 returns-then-same_bytes c =
-    row_hit _ c.loop-old.old-index _ _ c.loop-old-test.true (sym c.same_bytes.ensures ∙ c.if-same_bytes.true) ∙ sym c.loop-old.invariant
+    let e = row_hit _ c.loop-old.old-index _ _ c.loop-old-test.true (sym c.same_bytes.ensures ∙ c.if-same_bytes.true) ∙ sym c.loop-old.invariant in
+    search rules
 
 pub loop-old-preserved : goal.loop-old-preserved
 loop-old-preserved c =
