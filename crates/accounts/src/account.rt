@@ -6,6 +6,7 @@ use super::number::remainder;
 use figures::{Finding, decided, form_only};
 use forms::{creditor_form, iban_form};
 
+#[tactic(auto, unfolding(crate::specs::Rules::iban_finding))]
 pub fn iban_text(text: &[u8]) -> Finding
     ensures { result ≡ iban_finding text.now }
 {
