@@ -20,7 +20,9 @@ pub fn split_word(line: &[u8]) -> (&[u8], &[u8])
     }
 }
 
-fn digit(b: u8) -> u32 {
+fn digit(b: u8) -> u32
+    ensures { result ≤ 9 }
+{
     match b {
         b'0'..=b'9' => u32::from(b - b'0'),
         _ => 0,
