@@ -1,5 +1,5 @@
 // A content as it stands in a line: `\` and two hexadecimal digits are a byte, any other byte is itself.
-ghost use Rattle.std.specs.Prelude.{◌<◌, ◌≤◌};
+ghost use Rattle.std.specs.Prelude.{◌≡◌, ◌↔◌, ◌-◌, ◌<◌, ◌≤◌, length, drop, IsSome, IfSome};
 
 // A hexadecimal digit's value, and 0 for any other byte; a capital is none.
 fn hex_value(b: u8) -> u8
@@ -13,7 +13,11 @@ fn hex_value(b: u8) -> u8
 }
 
 // The byte that begins a line, and what stands behind it.
-fn take_byte(s: &[u8]) -> Option<(u8, &[u8])> {
+fn take_byte(s: &[u8]) -> Option<(u8, &[u8])>
+    ensures found { IsSome result ↔ (0 < length s.now) }
+    ensures shorter { IfSome result (λ taken. length taken.1.now < length s.now) }
+    ensures rest { IfSome result (λ taken. taken.1.now ≡ drop (length s.now - length taken.1.now) s.now) }
+{
     match s {
         [b'\\', high, low, rest @ ..] => Some((hex_value(*high) * 16 + hex_value(*low), rest)),
         [b, rest @ ..] => Some((*b, rest)),
