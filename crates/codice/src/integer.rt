@@ -45,8 +45,7 @@ fn is_number(p: &[u32]) -> bool
     ensures { result ≡ one_or_more_digits (trim_end p.now) }
 {
     let behind = past(p, |c| is_digit(c));
-    let left = past(behind, |c| is_white(c));
-    (behind.len() < p.len()) & (left.len() == 0)
+    behind.len() < p.len() && past(behind, |c| is_white(c)).len() == 0
 }
 
 // After trimming, at most one sign and then one or more digits.
