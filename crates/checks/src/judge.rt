@@ -55,6 +55,8 @@ pub struct StrictGln;
 impl Judge for StrictGln {
     ghost finds = { λ _ text. strict_gln text };
 
+    // Inlined, as what it calls is: a finding comes back in memory, and each call on the way would copy it.
+    #[inline(always)]
     fn finding(self, text: &[u8]) -> Finding {
         guard::gln_problem(text)
     }

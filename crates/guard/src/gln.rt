@@ -6,6 +6,7 @@ use figures::{Finding, Problem, gln};
 use forms::Fault;
 
 // What is found in a text as a GLN of exactly 13 digits: at that length what rule 40 finds.
+#[inline(always)]
 pub fn gln_problem(text: &[u8]) -> Finding
     ensures { result ≡ strict_gln text.now }
 {
