@@ -23,7 +23,7 @@ use Rattle.std.specs.Prelude.{Result, Ok, Err, is_ok, IsErr, IsErrAnd, ⊤}
 use Rattle.std.proofs.lemmas.Result.{err_from_is_err_and}
 use Rattle.figures.proofs.Steps.{within_table}
 use Rattle.forms.specs.Form.{Form, fault_of}
-use Rattle.forms.proofs.Laws.{fault_long}
+use Rattle.forms.proofs.Laws.{fault_short, fault_long}
 use Rattle.forms.specs.declared.form.Fault.{Fault}
 use Rattle.forms.specs.declared.form.Fault.TheVariants.{Length}
 use Rattle.figures.specs.Total.{total}
@@ -159,6 +159,21 @@ sum_by n e h = rw (← h) e
 pub sum_same : (y : Result ⊤ Fault) {n m : ℕ} → (y ≡ Ok tt → n ≡ m) → summed y n ≡ summed y m
 sum_same (Ok tt) h = ap (λ (k : ℕ). Ok k) (h refl)
 sum_same (Err fault) h = refl
+
+-- a length that is out of range, whatever the places are
+pub sum_out : (fold : Bool) (places : List ℕ) (f : Form) (after : ℕ) (s : List ℕ) → fault_of f s ≡ Err Length → Err Length ≡ summed_by fold places f after s
+unfolding summed_by pick
+sum_out fold places f after s h = rw h (go (leb (length s + after) (length places)))
+  where
+    go : (t : Bool) → ◌≡◌ {A = Result ℕ Fault} (Err Length) (pick t (Err Length) (Err Length))
+    go true = refl
+    go false = refl
+
+pub sum_short : (fold : Bool) (places : List ℕ) (f : Form) (after : ℕ) (s : List ℕ) → length s < f.least → Err Length ≡ summed_by fold places f after s
+sum_short fold places f after s h = sum_out fold places f after s (fault_short f s h)
+
+pub sum_long : (fold : Bool) (places : List ℕ) (f : Form) (after : ℕ) (s : List ℕ) → f.most < length s → Err Length ≡ summed_by fold places f after s
+sum_long fold places f after s h = sum_out fold places f after s (fault_long f s h)
 
 -- more digits than places
 pub sum_over : (fold : Bool) (places : List ℕ) (f : Form) (after : ℕ) (s : List ℕ) → length places < length s + after → Err Length ≡ summed_by fold places f after s

@@ -6,9 +6,10 @@ ghost use Rattle.figures.specs.Total.{total};
 ghost use Rattle.figures.specs.Figures.{weight_at, counted, belgian_pair};
 ghost use Rattle.figures.specs.Inner.{figure_by, weight_by, placed, adds_from, summed_by, total_passes, lacking, figure_for};
 
-use super::total::{counted, weighted};
+use super::total::counted;
 use answer::Reason;
-use forms::{Fault, digits};
+use ascii::{is_digit, wide};
+use forms::Fault;
 use std::array;
 
 // 0088, 0192, 0208, 0007, 0151.
@@ -83,7 +84,8 @@ pub fn share(kind: Kind, w: u32, d: u8) -> u64
 }
 
 // The total of least to most digits by the weights of their places; where a check digit is still to come, the last place is for it. More digits
-// than places are too long. The form first, by the one test of forms, and then the total.
+// than places are too long. One pass tests each digit and adds it up: by forms' test and then `weighted` a completion took 18 to 40 percent more.
+#[tactic(auto, using(crate::proofs::Adding::sum_short, crate::proofs::Adding::sum_long, crate::proofs::Adding::sum_over))]
 pub fn sum_of(
     kind: Kind,
     weights: &[u32],
@@ -94,12 +96,20 @@ pub fn sum_of(
 ) -> Result<u64, Fault>
     ensures { result ≡ summed_by (figure_by kind).fold weights.now (digits least most) (bool_byte pending) s.now }
 {
+    let n = s.len();
     let after = usize::from(pending);
-    if weights.len() < s.len() + after {
+    if weights.len() < n + after || n < usize::from(least) || usize::from(most) < n {
         return Err(Fault::Length);
     }
-    digits(s, usize::from(least), usize::from(most))?;
-    Ok(weighted(s, &weights[after..], kind == Kind::Luhn))
+    let places = &weights[after..];
+    let mut sum = 0;
+    for (i, b) in s.iter().enumerate() {
+        if !is_digit(wide(*b)) {
+            return Err(Fault::At(i));
+        }
+        sum += share(kind, places[n - 1 - i], *b - 48);
+    }
+    Ok(sum)
 }
 
 // The pair of 0208: 97 less what the first eight digits leave by 97.

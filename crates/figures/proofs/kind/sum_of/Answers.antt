@@ -1,32 +1,81 @@
 -- `figures::kind::sum_of` meets its contract. Assumes nothing.
-use mathlib.Core.Path.{sym, ◌∙◌, ap}
+use mathlib.Core.Path.{◌≡◌, refl, sym, ◌∙◌, ap}
+use mathlib.Core.Bool.{Bool}
+use mathlib.Core.List.{List}
+use Prim.Native.Nat.{ℕ, ◌+◌, ◌-◌, ◌*◌, ◌≤◌, ◌<◌}
 use native.Mathlib.Omega.{arith}
-use Rattle.std.proofs.Common.{rules}
-use Rattle.forms.proofs.OfDigits.{digits_fit}
+use lib.ListN.{length, get_or, take, drop}
+use Rattle.std.proofs.Common.{below_more}
+use Rattle.ascii.specs.Class.{is_digit}
+use Rattle.ascii.proofs.Class.{digit_bounds}
+use Rattle.forms.specs.Table.{digits}
+use Rattle.forms.proofs.Laws.{class_digit}
+use Rattle.forms.proofs.Meaning.{means_at, means_fits}
 use Rattle.figures.specs.Total.{total}
-use mir.Val.{bool_byte}
-use Rattle.figures.specs.Inner.{adds_from}
-use Rattle.figures.proofs.Adding.{sum_over, sum_unfit, sum_met, places_from}
+use Rattle.figures.specs.Figures.{counted, adds}
+use Rattle.figures.specs.Inner.{figure_by, adds_from}
+use Rattle.figures.proofs.Steps.{step, end, within_table}
+use Rattle.figures.proofs.Adding.{share_small, sum_unfit, sum_met, places_from}
+use Rattle.figures.proofs.kind.sum_of.Goals.{After-share-sum}
 use Rattle.figures.proofs.kind.sum_of.Goals as goal
 
-pub returns-then-weights-s : goal.returns-then-weights-s
-returns-then-weights-s c = sum_over _ _ _ _ _ (omega (arith, c.if-weights-s.true, c.from-after.ensures))
+-- the digit at place i is added
+turn : (fold : Bool) (ps s : List ℕ) (i sum more : ℕ) → more ≡ counted fold (get_or ps (length s - 1 - i) 0 * (get_or s i 0 - 48))
+    → sum + total (adds fold ps) (drop i s) ≡ total (adds fold ps) s → i < length s → length s ≤ length ps
+    → sum + more + total (adds fold ps) (drop (i + 1) s) ≡ total (adds fold ps) s
+turn fold ps s i sum more e g h l =
+    let w = within_table ps (length s - 1 - i) (omega arith) in
+    omega (arith, step (adds fold ps) s i h, e ∙ ap (λ w. counted fold (w * (get_or s i 0 - 48))) (sym w))
 
-pub returns-in_err-digits : goal.returns-in_err-digits
-returns-in_err-digits c =
-    sum_unfit _ _ _ _ _ (omega (arith, c.if-weights-s.false, c.from-after.ensures)) c.from_residual.ensures
-    (rw (c.from.ensures, c.from-2.ensures) at c.in_err-digits.ensures)
+-- the byte that is read, by the code's test of it
+tested : {t x : Bool} {w b : ℕ} → t ≡ is_digit w → w ≡ b → t ≡ x → is_digit b ≡ x
+tested h e g = sym (h ∙ ap is_digit e) ∙ g
 
-pub weighted-requires-clause-digits : goal.weighted-requires-clause-digits
-weighted-requires-clause-digits c = (digits_fit c.from.result c.from-2.result c.args.s.now (sym c.in_ok-digits.ensures)).digit
+-- what a digit adds
+small : (c : After-share-sum) → c.share-sum.result ≤ 38654705664
+small c =
+    let d = digit_bounds _ (tested c.is_digit.ensures c.wide.ensures c.if-not-is_digit.false) in
+    rw c.share-sum.ensures
+    (share_small (figure_by c.args.kind).fold _ _ (omega (arith, c.type_inv.places (length c.args.s.now - 1 - c.loop-i.i))) (omega arith))
 
-pub weighted-requires-clause-few : goal.weighted-requires-clause-few
-weighted-requires-clause-few c = omega (arith, (digits_fit c.from.result c.from-2.result c.args.s.now (sym c.in_ok-digits.ensures)).most)
+pub overflow_sub-b : goal.overflow_sub-b
+overflow_sub-b c = (digit_bounds _ (tested c.is_digit.ensures c.wide.ensures c.if-not-is_digit.false)).0
+
+pub overflow_add-sum : goal.overflow_add-sum
+overflow_add-sum c = omega (arith, small c)
+
+pub loop-i-preserved : goal.loop-i-preserved
+loop-i-preserved c =
+    let l = c.loop-i.invariant in (
+      omega (arith, small (goal.at.loop-i-preserved c).After-share-sum),
+      turn _ _ _ _ _ _ c.share-sum.ensures l.1 c.loop-i-test.true (omega arith),
+      below_more _ _ l.2 (tested c.is_digit.ensures c.wide.ensures c.if-not-is_digit.false),
+    )
+
+pub returns-then-not-is_digit : goal.returns-then-not-is_digit
+returns-then-not-is_digit c =
+    sum_unfit _ _ _ _ _ (omega arith) (refl, refl)
+    (sym
+    (means_at (digits c.args.least c.args.most) c.args.s.now c.loop-i.i
+    record {
+      least = omega arith;
+      most = omega arith;
+      inside = c.loop-i-test.true;
+      fails = class_digit 0x23 _ refl ∙ tested c.is_digit.ensures c.wide.ensures c.if-not-is_digit.true;
+      before = λ k l. class_digit 0x23 _ refl ∙ c.loop-i.invariant.2 k l;
+    }))
 
 pub returns : goal.returns
 returns c =
-    sum_met _ _ _ _ _ (omega (arith, c.if-weights-s.false, c.from-after.ensures)) (rw (c.from.ensures, c.from-2.ensures) at c.in_ok-digits.ensures)
-    (c.weighted.ensures.exact
-    ∙ places_from c.eq.result c.args.weights.now c.from-after.result c.args.s.now c.if-weights-s.false
-    ∙ ap (λ n. total (adds_from n c.eq.result c.args.weights.now) c.args.s.now) c.from-after.ensures
-    ∙ ap (λ b. total (adds_from (bool_byte c.args.pending) b c.args.weights.now) c.args.s.now) (search rules))
+    let s = c.args.s.now in
+    let ws = c.args.weights.now in
+    let fold = (figure_by c.args.kind).fold in
+    let after = c.from-after.result in
+    let ps = take (length ws - after) (drop after ws) in
+    sum_met _ _ _ _ _ (omega arith)
+    (sym
+    (means_fits (digits c.args.least c.args.most) s
+    record { least = omega arith; most = omega arith; each = λ k l. class_digit 0x23 _ refl ∙ c.loop-i.invariant.2 k (omega arith) }))
+    (omega (arith, c.loop-i.invariant.1, end (adds fold ps) s c.loop-i.i c.loop-i-test.false)
+    ∙ places_from fold ws after s c.if-weights-n.false
+    ∙ ap (λ n. total (adds_from n fold ws) s) c.from-after.ensures)
