@@ -1,13 +1,14 @@
 -- How an input is split into lines: one line after the other, and a line that no newline ends yet. Assumes nothing.
 use mathlib.Core.Path.{◌≡◌, refl, sym, ◌∙◌, ap}
-use mathlib.Core.Bool.{Bool, true, false}
+use mathlib.Core.Bool.{Bool, true, false, ◌||◌}
 use mathlib.Core.List.{List, [], ◌∷◌, ◌++◌, append-nil}
 use Prim.Native.Nat.{ℕ, zero, suc, ◌+◌, ◌≤◌, ◌<◌}
 use native.Mathlib.Nat.{suc-add}
 use native.Mathlib.Omega.{arith}
 use lib.Dec.{eqb}
 use lib.ListN.{length, take, drop, get_or}
-use borrow.Author.Tests.{eq-eqb, ne_eqb}
+use borrow.Author.Tests.{eq-eqb, ne_eqb, eqb-false}
+use Rattle.ascii.proofs.Tests.{false_true}
 use Rattle.std.proofs.Common.{Option, None, Some, unwrap_or, add-one, drop-cons}
 use Rattle.std.proofs.lemmas.Bool.{false_from_ne_true}
 use Rattle.std.proofs.lemmas.List.Sums.{position_or_len_is, prefix_len-le-length}
@@ -87,6 +88,54 @@ upto_here s i h e = rw (drop-cons s i 0 h) (upto_newline (get_or s i 0) (drop (s
 
 pub upto_past : (s : List ℕ) (i : ℕ) → i < length s → (get_or s i 0 ≡ 10 → ⊥) → upto (drop i s) ≡ suc (upto (drop (i + 1) s))
 upto_past s i h n = rw (drop-cons s i 0 h, add-one i) (upto_byte (get_or s i 0) (drop (suc i) s) (ne_eqb _ _ n))
+
+-- eight bytes that are tested together
+or_false : (a b : Bool) → (a || b) ≡ false → (a ≡ false) × (b ≡ false)
+or_false true b e = false_true (sym e)
+or_false false b e = (refl, e)
+
+past_one : (s : List ℕ) (i : ℕ) → i < length s → eqb (get_or s i 0) 10 ≡ false → upto (drop i s) ≡ suc (upto (drop (i + 1) s))
+past_one s i h e = upto_past s i h (eqb-false (get_or s i 0) 10 e)
+
+past_two : (s : List ℕ) (i j : ℕ) → j ≡ i + 1 → i + 2 ≤ length s → (eqb (get_or s i 0) 10 || eqb (get_or s j 0) 10) ≡ false
+    → upto (drop i s) ≡ 2 + upto (drop (i + 2) s)
+past_two s i j ej h e =
+    let t = or_false (eqb (get_or s i 0) 10) (eqb (get_or s j 0) 10) e in
+    let f : eqb (get_or s (i + 1) 0) 10 ≡ false = rw ej at t.1 in
+    let n : i + 1 + 1 ≡ i + 2 = omega arith in
+    let last : upto (drop (i + 1 + 1) s) ≡ upto (drop (i + 2) s) = ap (λ (k : ℕ). upto (drop k s)) n in
+    omega (arith, past_one s i (omega arith) t.0, past_one s (i + 1) (omega arith) f, last)
+
+pub past_eight : (s : List ℕ) (i : ℕ) → i + 8 ≤ length s
+    → (((eqb (get_or s i 0) 10 || eqb (get_or s (i + 1) 0) 10) || (eqb (get_or s (i + 2) 0) 10 || eqb (get_or s (i + 3) 0) 10))
+    || ((eqb (get_or s (i + 4) 0) 10 || eqb (get_or s (i + 5) 0) 10) || (eqb (get_or s (i + 6) 0) 10 || eqb (get_or s (i + 7) 0) 10)))
+    ≡ false
+    → upto (drop i s) ≡ 8 + upto (drop (i + 8) s)
+past_eight s i h e =
+    let a = eqb (get_or s i 0) 10 || eqb (get_or s (i + 1) 0) 10 in
+    let b = eqb (get_or s (i + 2) 0) 10 || eqb (get_or s (i + 3) 0) 10 in
+    let c = eqb (get_or s (i + 4) 0) 10 || eqb (get_or s (i + 5) 0) 10 in
+    let d = eqb (get_or s (i + 6) 0) 10 || eqb (get_or s (i + 7) 0) 10 in
+    let t = or_false (a || b) (c || d) e in
+    let l = or_false a b t.0 in
+    let r = or_false c d t.1 in
+    let at : (j k : ℕ) → j ≡ k → upto (drop j s) ≡ upto (drop k s) = λ j k q. ap (λ (n : ℕ). upto (drop n s)) q in
+    omega (
+      arith,
+      past_two s i (i + 1) refl (omega arith) l.0,
+      past_two s (i + 2) (i + 3) (omega arith) (omega arith) l.1,
+      past_two s (i + 4) (i + 5) (omega arith) (omega arith) r.0,
+      past_two s (i + 6) (i + 7) (omega arith) (omega arith) r.1,
+      at (i + 2 + 2) (i + 4) (omega arith),
+      at (i + 4 + 2) (i + 6) (omega arith),
+      at (i + 6 + 2) (i + 8) (omega arith),
+    )
+
+pub upto_end : (s : List ℕ) (i : ℕ) → length s ≤ i → upto (drop i s) ≡ 0
+upto_end [] zero h = upto_none
+upto_end [] (suc i) h = upto_none
+upto_end (b ∷ s) zero h = absurd (omega arith)
+upto_end (b ∷ s) (suc i) h = upto_end s i (omega arith)
 
 pub upto_le : (s : List ℕ) → upto s ≤ length s
 unfolding upto
