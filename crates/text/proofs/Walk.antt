@@ -6,7 +6,7 @@ use Prim.Native.Nat.{ℕ, zero, suc, ◌+◌, ◌≤◌, ◌<◌}
 use native.Mathlib.Nat.{add-zero}
 use native.Mathlib.Omega.{arith}
 use borrow.Author.Tests.{le-leb, lt-leb, ltb-true, lt-ltb}
-use lib.ListN.{length, take, drop, set, replicate, length-append, length-drop, length-map}
+use lib.ListN.{length, take, drop, set, get_or, replicate, length-append, length-drop, length-map}
 use lib.Seq.{length-take-le}
 use Rattle.ascii.specs.Pick.{pick}
 use Rattle.ascii.specs.Area.{put}
@@ -22,9 +22,9 @@ use Rattle.text.specs.White.{is_white}
 use Rattle.text.specs.Content.{Piece, Cell, Content, malformed, content, content_from, content_of, cells, cells_of}
 use Rattle.text.specs.Words.{words, parts, closed, normal, stripped}
 use Rattle.text.specs.Answer.{padded, kept, refusal, on_content, answer, normal_text, stripped_text}
-use Rattle.text.specs.Inner.{IsRun}
+use Rattle.text.specs.Inner.{IsRun, Blank}
 use Rattle.text.proofs.Run.{put_behind}
-use Rattle.text.proofs.Byte.{dark_byte, dark_step}
+use Rattle.text.proofs.Byte.{dark_byte, dark_step, space_white, space_step}
 use Rattle.text.proofs.Padded.{length_padded, padded_put}
 use Rattle.text.proofs.Modes.{Mode, before, behind, apart, coming, space, walk_normal, stripped_white, stripped_dark}
 use Rattle.text.proofs.Points.{point_good, stuck, none_left, advance, texts, texts_cells, length_cells}
@@ -236,3 +236,17 @@ add_bytes (suc k) (b ∷ l) out n i h e =
 pub add_run : {spaced due : Bool} {s l out new : List ℕ} {n k : ℕ} → State spaced s due n l out → due ≡ false → IsRun l out n k new
     → State spaced s due (n + k) (drop k l) new
 add_run {l = l} {out} {n = n} {k} i d r = rw (d, r.stored) (add_bytes k l out n (rw d at i) r.few r.dark)
+
+-- spaces, which are white
+
+pass_more : {spaced : Bool} {s out : List ℕ} {n : ℕ} (k : ℕ) (l : List ℕ) → State spaced s (spaced && nat_lt 0 n) n l out → k ≤ length l
+    → ((i : ℕ) → i < k → get_or l i 0 ≡ 0x20) → State spaced s (spaced && nat_lt 0 n) n (drop k l) out
+pass_more zero l i h b = i
+pass_more (suc k) [] i h b = absurd (omega arith)
+pass_more (suc k) (a ∷ l) i h b =
+    pass_more k l (pass i 0x20 1 (space_step (a ∷ l) (omega arith) (b 0 (omega arith))) space_white) (omega arith) (λ j q. b (suc j) (omega arith))
+
+-- those at the front
+pub begin_behind : (spaced : Bool) (s : List ℕ) (k : ℕ) → length s ≤ 1024 → Blank s k → State spaced s false 0 (drop k s) (replicate 1024 0)
+begin_behind true s k h b = pass_more k s (begin true s h) b.most b.blank
+begin_behind false s k h b = pass_more k s (begin false s h) b.most b.blank

@@ -2,7 +2,7 @@
 ghost use Rattle.std.specs.Prelude.{◌≡◌, ◌+◌, ◌≤◌, length, take};
 ghost use Rattle.ascii.specs.Area.{put};
 ghost use Rattle.text.specs.Answer.{refusal, text_in};
-ghost use Rattle.text.specs.Inner.{IsRun};
+ghost use Rattle.text.specs.Inner.{IsRun, Blank};
 
 use super::white::is_dark_byte;
 use answer::Reason;
@@ -60,7 +60,14 @@ pub(crate) fn put_dark(s: &[u8], out: &mut [u8; 1024], n: usize) -> usize
     s.len()
 }
 
-// Whether a run has a byte. For speed alone, and so without a promise: a run of none is a run.
-pub(crate) fn begins_dark(s: &[u8]) -> bool {
-    matches!(s, [b, ..] if is_dark_byte(*b))
+// How many spaces stand at the front.
+pub(crate) fn spaces(s: &[u8]) -> usize
+    ensures { Blank s.now result }
+{
+    for k in 0..s.len() {
+        if s[k] != b' ' {
+            return k;
+        }
+    }
+    s.len()
 }

@@ -4,7 +4,7 @@ ghost use Rattle.std.specs.Fn.{FnOnceReturnsAtMut};
 ghost use Rattle.ascii.specs.Pick.{pick};
 ghost use Rattle.text.specs.Answer.{stripped_text, normal_text, text_in};
 
-use super::area::{Text, begins_dark, put, put_dark, refuse};
+use super::area::{Text, put, put_dark, refuse, spaces};
 use super::utf8::first_point;
 use super::white::is_white;
 use answer::Reason;
@@ -22,12 +22,21 @@ fn put_words(s: &[u8], spaced: bool, out: &mut [u8; 1024]) -> Result<usize, Reas
     let mut n: usize = 0;
     // a space is due: white stands before `rest`, and a word before that
     let mut due = false;
-    let mut rest = s;
+    // before the first word there may be many
+    let mut rest = s.split_at(spaces(s)).1;
     loop {
-        if !due & begins_dark(rest) {
+        if !due {
             let k = put_dark(rest, out, n);
             n += k;
             rest = rest.split_at(k).1;
+        }
+        // the commonest white point, without decoding it
+        if let [first, ..] = rest
+            && *first == b' '
+        {
+            due = spaced & (0 < n);
+            rest = rest.split_at(1).1;
+            continue;
         }
         let Some(point) = first_point(rest) else {
             break;
