@@ -44,7 +44,7 @@ pub fn among(c: u32, list: &[u32]) -> bool
 }
 
 // Whether two texts are the same, byte for byte, by the definition that schemes and codes are compared by. Not by `==`, which looks at four bytes
-// at once: nearly every code is told from all the withdrawn ones by its first byte.
+// at once: a code that begins with 0 is told from each of the withdrawn ones by its first byte.
 pub fn same_bytes(a: &[u8], b: &[u8]) -> bool
     ensures { result ≡ same_bytes a.now b.now }
 {
