@@ -16,7 +16,7 @@ fn ends_in_eight(s: &[u8], i: usize) -> bool
     (a | b) | (c | d)
 }
 
-// So many bytes are looked at here: a newline as near as these is found in half of memchr's time.
+// So many bytes are looked at here: by memchr alone many empty lines took twice as long and more.
 const NEAR: usize = 16;
 
 // How many bytes can be passed over, eight by eight, before a newline is near; all that are looked at, where none is.
@@ -43,7 +43,7 @@ fn far_len(s: &[u8]) -> usize
     memchr(b'\n', s).unwrap_or(s.len())
 }
 
-// How many bytes of s stand before its first newline; all where there is none. Inlined, since a call would take an empty line as long again.
+// How many bytes of s stand before its first newline; all where there is none. Inlined: by a call many empty lines took a quarter more.
 #[inline(always)]
 pub fn line_len(s: &[u8]) -> usize
     ensures within { result ≤ length s.now }

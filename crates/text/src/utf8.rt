@@ -71,7 +71,7 @@ fn quad(a: u8, low: u8, high: u8, rest: &[u8]) -> Option<Point>
     }
 }
 
-// The rows of the table past the first. They go into each loop with `first_point`: handed back in memory, points of two bytes took a third longer.
+// The rows of the table past the first. They go into each loop with `first_point`: handed back in memory, a text of points of two bytes took half as long again.
 #[inline(always)]
 #[tactic(auto, using(crate::proofs::Rows::rows))]
 fn beyond(a: u8, rest: &[u8]) -> Option<Point>
