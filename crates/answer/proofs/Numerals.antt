@@ -107,7 +107,7 @@ field_within most n b h = omega (arith, field_long n b, numeral_within most n h)
 pub one_long : (n : ℕ) → n < 10 → length (numeral n) ≡ 1
 one_long n h = ap length (numeral_one n h)
 
-one_longer : (n : ℕ) → 10 ≤ n → n < 10000000000 → length (numeral n) ≡ length (numeral (n / 10)) + 1
+pub one_longer : (n : ℕ) → 10 ≤ n → n < 10000000000 → length (numeral n) ≡ length (numeral (n / 10)) + 1
 one_longer n h k = ap length (numeral_more n h k) ∙ length-append (numeral (n / 10)) ((48 + n % 10) ∷ [])
 
 pub put_digit : (l : List ℕ) (at n : ℕ) → at + length (numeral n) ≤ length l → n < 10

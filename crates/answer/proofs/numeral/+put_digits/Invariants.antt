@@ -1,0 +1,5 @@
+-- Each call is of a tenth of the number.
+use Rattle.answer.proofs.numeral.+put_digits.Given as goal
+
+abbrev pub decreases-put_digits : goal.decreases-put_digits
+decreases-put_digits l = l.n
