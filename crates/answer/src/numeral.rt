@@ -27,7 +27,7 @@ fn last_digit(n: u32) -> u8
     (48 + n % 10) as u8
 }
 
-// Stores a number in decimal from `at` on, and says where it ends. There is room for it.
+// Stores the digits of a number, for which there is room.
 fn put_digits(out: &mut [u8], at: usize, n: u32) -> usize
     requires { at + length (numeral n) ≤ length out.old }
     ensures { Put (length (numeral n)) out.old at (numeral n) result out.new }
@@ -41,7 +41,7 @@ fn put_digits(out: &mut [u8], at: usize, n: u32) -> usize
     k + 1
 }
 
-// The same where there is room; else nothing, and it ends where it begins.
+// Stores a number in decimal from `at` on, and says where it ends. Where not all of it has room, it stores nothing and says `at`.
 pub fn put_numeral(out: &mut [u8], at: usize, n: u32) -> usize
     ensures stored { at + length (numeral n) ≤ length out.old → Put (length (numeral n)) out.old at (numeral n) result out.new }
     ensures no_room { length out.old < at + length (numeral n) → Put 0 out.old at [] result out.new }
@@ -52,7 +52,7 @@ pub fn put_numeral(out: &mut [u8], at: usize, n: u32) -> usize
     put_digits(out, at, n)
 }
 
-// A number and the byte behind it, likewise.
+// Stores a number and the byte behind it, likewise: both, or nothing.
 pub fn put_field(out: &mut [u8], at: usize, n: u32, behind: u8) -> usize
     ensures stored { at + length (field n behind) ≤ length out.old → Put (length (field n behind)) out.old at (field n behind) result out.new }
     ensures no_room { length out.old < at + length (field n behind) → Put 0 out.old at [] result out.new }
@@ -69,7 +69,7 @@ pub fn put_field(out: &mut [u8], at: usize, n: u32, behind: u8) -> usize
 mod tests {
     use super::*;
 
-    // n, the place, where it ends, and the area behind it; it was twelve points.
+    // A number, its place, where it ends, and what an area of twelve points has become.
     #[test]
     fn a_numeral_stands_where_it_has_room(rt: HostRuntime) {
         for (n, at, end, area) in [
